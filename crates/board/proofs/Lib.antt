@@ -1,0 +1,15 @@
+pub mod Shifted
+pub mod Checks
+pub mod Keeps
+pub mod Steps
+pub mod Walks
+pub mod Told
+pub mod Made
+pub mod Lent
+pub mod Outcomes
+pub mod Restated
+pub mod Reslotted
+pub mod Unbooked
+pub mod Answered
+pub mod Booked
+pub mod Searched

@@ -1,0 +1,7 @@
+pub mod Calls
+pub mod Keeping
+pub mod Shifts
+pub mod Places
+pub mod Theorems
+pub mod Views
+pub mod Results

@@ -1,0 +1,3 @@
+//! Runs a call sheet on a crew board.
+pub mod entry;
+pub mod run;

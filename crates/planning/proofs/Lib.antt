@@ -1,0 +1,14 @@
+pub mod Ascents
+pub mod Splits
+pub mod Covers
+pub mod Opens
+pub mod Closes
+pub mod Meets
+pub mod Trying
+pub mod Members
+pub mod Joins
+pub mod Slides
+pub mod Stretches
+pub mod Choices
+pub mod Rights
+pub mod Orders

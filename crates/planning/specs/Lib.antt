@@ -1,0 +1,9 @@
+pub mod Requests
+pub mod Search
+pub mod Rectangles
+pub mod Policies
+pub mod Rules
+pub mod Walks
+pub mod Tries
+pub mod Right
+pub mod Theorems

@@ -1,0 +1,8 @@
+mod Marks
+mod Digits
+mod FirstFields
+mod Filling
+mod Letters
+pub mod LinesInOrder
+mod NoneLost
+mod Listing

@@ -1,0 +1,3 @@
+//! Many sheets, and what they must be answered.
+#[cfg(test)]
+mod sheets;
