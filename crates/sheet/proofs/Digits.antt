@@ -1,7 +1,7 @@
 -- How the number of a field grows digit by digit. Assumes nothing.
 use mathlib.Core.Path.{_≡_, refl, sym, _∙_, ap}
 use mathlib.Core.List.{List, [], _∷_}
-use mathlib.Core.Bool.{Bool, true, false, cond, _&&_}
+use mathlib.Core.Bool.{Bool, true, false, _&&_}
 use Prim.Native.Nat.{ℕ, _+_, _-_, _*_, _<_, _≤_}
 use native.Mathlib.Omega.{arith}
 use borrow.Author.Tests.{le-leb, lt-leb}
@@ -15,9 +15,9 @@ use Rattle.std.specs.shelf.Text.{allDigits}
 use Rattle.std.specs.declared.option.Option.{Option}
 use Rattle.std.specs.declared.option.Option.the-variants.{Some, None}
 use Rattle.sheet.specs.Fields.{value-after}
-use Rattle.sheet.specs.Steps.{with-digit, digits-after}
+use Rattle.sheet.specs.FieldSteps.{with-digit, digits-after}
 
-pub value-grows : (n : ℕ) (bs : List ℕ) → n ≤ value-after n bs
+value-grows : (n : ℕ) (bs : List ℕ) → n ≤ value-after n bs
 value-grows n [] = omega arith
 value-grows n (b ∷ bs) = let h = value-grows (n * 10 + (b - 48)) bs in omega arith
 
@@ -31,7 +31,7 @@ none-if-large n bs h =
     let g : 4294967295 < value-after n bs = omega (arith, value-grows n bs) in
     elim (allDigits bs) as (λ v. whenTrue (v && leb (value-after n bs) 4294967295) (value-after n bs) ≡ None) [ true ↦ rw lt-leb | false ↦ refl ]
 
-pub digits-step : (n b : ℕ) (bs : List ℕ) → digits-after n (b ∷ bs) ≡ after (with-digit n b) bs
+digits-step : (n b : ℕ) (bs : List ℕ) → digits-after n (b ∷ bs) ≡ after (with-digit n b) bs
 digits-step n b bs = by-digit (asciiDigit b) (leb m 4294967295) refl
   where
     m : ℕ

@@ -1,17 +1,15 @@
 -- The first field of a line, and the fields behind it. Assumes nothing.
 use mathlib.Core.Path.{_≡_, refl, sym, _∙_, ap}
-use mathlib.Core.Logic.{_⊎_, inl, inr, ⊎-elim}
 use mathlib.Core.List.{List, [], _∷_}
 use mathlib.Core.Bool.{Bool, true, false, cond}
-use Prim.Native.Nat.{ℕ, _+_, _-_, _<_, _≤_, suc}
+use Prim.Native.Nat.{ℕ, _-_, _<_, suc}
 use native.Mathlib.Omega.{arith}
 use lib.Dec.{eqb}
 use lib.ListN.{length, getD, take, drop}
 use Rattle.std.specs.declared.option.Option.{Option}
 use Rattle.std.specs.declared.option.Option.the-variants.{Some, None}
-use Rattle.sheet.specs.Lines.{onto}
+use Rattle.sheet.specs.Lines.{onto, length-before}
 use Rattle.sheet.specs.Fields.{number-of, fields, with-first, all-numbers, numbers-of}
-use Rattle.sheet.specs.Steps.{length-before}
 
 -- the fields of what stands behind the first field: nothing, or a space and more fields
 abbrev later : List ℕ → List (List ℕ)

@@ -6,3 +6,5 @@ mod Letters
 pub mod LinesInOrder
 mod NoneLost
 mod Listing
+mod WrittenNumbers
+mod WrittenOrders

@@ -1,18 +1,16 @@
 -- The line at the reader's place is the first of the lines that are left. Assumes nothing.
 use mathlib.Core.Path.{_≡_, refl, sym, _∙_, ap}
 use mathlib.Core.Logic.{_⊎_, inl, inr, ⊎-elim}
-use mathlib.Core.List.{List, [], _∷_, _++_, map}
+use mathlib.Core.List.{List, [], _∷_, _++_}
 use mathlib.Core.Bool.{Bool, true, false, cond}
-use Prim.Native.Nat.{ℕ, _+_, _<_, _≤_, min, suc}
+use Prim.Native.Nat.{ℕ, _+_, _<_, _≤_, suc}
 use native.Mathlib.Nat.{le-refl, min-eq-left, min-eq-right}
 use native.Mathlib.Omega.{arith}
 use lib.Dec.{eqb}
 use lib.ListN.{length, take, drop, length-append, length-drop}
 use Rattle.std.proofs.shelf.Lists.{at-drop-all, drop-all, drop-drop, length-take-le}
 use Rattle.std.proofs.shelf.Tests.{cases-lt, eqb-true}
-use Rattle.sheet.specs.Lines.{Part, part, onto, lines, placed, ended}
-use Rattle.sheet.specs.Items.{line-at, place-after}
-use Rattle.sheet.specs.Steps.{length-before}
+use Rattle.sheet.specs.Lines.{Part, part, onto, lines, placed, ended, line-at, place-after, length-before}
 use Rattle.sheet.proofs.Marks.{before-within}
 
 abbrev end : List ℕ → ℕ

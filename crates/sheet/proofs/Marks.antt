@@ -8,7 +8,7 @@ use borrow.Author.Tests.{ne-eqb, eq-eqb}
 use lib.Dec.{eqb}
 use lib.ListN.{length, getD, take, drop}
 use Rattle.std.proofs.shelf.Lists.{at-drop-more, at-drop-all}
-use Rattle.sheet.specs.Steps.{length-before}
+use Rattle.sheet.specs.Lines.{length-before}
 
 pub before-stops : (m : ℕ) (bs : List ℕ) (i : ℕ) → i < length bs → getD bs i 0 ≡ m → length-before m (drop i bs) ≡ 0
 before-stops m bs i h e = at-drop-more (length-before m) bs i 0 h ∙ rw eq-eqb

@@ -1,7 +1,6 @@
 -- No line is lost on the reader's way. Assumes nothing.
 use mathlib.Core.Path.{_≡_, refl, sym, _∙_, ap, subst}
-use mathlib.Core.Logic.{_⊎_}
-use mathlib.Core.List.{List, [], _∷_, _++_, map, map-map}
+use mathlib.Core.List.{List, [], _∷_, map, map-map}
 use Prim.Native.Nat.{ℕ, _+_}
 use native.Mathlib.Omega.{arith}
 use lib.ListN.{length, take, drop}
@@ -13,10 +12,10 @@ use Rattle.std.proofs.iter.runs.Made.{took}
 use Rattle.std.proofs.iter.runs.Sources.{from-front}
 use Rattle.sheet.specs.declared.item.Item.{Item}
 use Rattle.sheet.specs.declared.reader.SheetReader.{SheetReader}
-use Rattle.sheet.specs.Lines.{Part, part, lines, placed, parts, ended}
+use Rattle.sheet.specs.Lines.{Part, part, lines, placed, parts, line-at, place-after}
 use Rattle.sheet.specs.Orders.{Content, content}
-use Rattle.sheet.specs.Items.{part-of, content-of, line-at, place-after}
-use Rattle.sheet.specs.Reading.{Read, Steps, Own, Whole, No-line-lost}
+use Rattle.sheet.specs.Items.{part-of, content-of}
+use Rattle.sheet.specs.Reading.{Read, Steps, Own, No-line-lost}
 use Rattle.sheet.proofs.LinesInOrder.{lines-from, parts-from, lines-step, parts-step, length-line-at, ended-lines}
 
 -- what is left at the reader's place

@@ -29,7 +29,7 @@ finish-of ns = mapped (λ xs. Finish (getD xs 0 0)) (exactly 1 ns)
 abbrev pub list-of : Option (List ℕ) → Option Order
 list-of ns = mapped (λ xs. Lists) (exactly 0 ns)
 
--- the letters are P, C, B, F and L
+-- the letters are P, C, B, F and L, by their codes
 abbrev pub order-of : ℕ → Option (List ℕ) → Option Order
 order-of letter ns =
     cond (eqb letter 80) (hold-of ns)
@@ -56,6 +56,7 @@ numbers-in Lists = []
 abbrev pub written : Order → List ℕ
 written o = letter-of o ∷ spaced [] (numbers-in o)
 
+-- what a line is
 pub data Content : Type 0 where
   entry : Order → Content
   remark : Content

@@ -2,18 +2,18 @@
 use mathlib.Core.Path.{_≡_}
 use mathlib.Core.Logic.{_⊎_}
 use mathlib.Core.List.{List, [], _∷_, _++_, map}
+use mathlib.Core.Bool.{true}
 use Prim.Native.Nat.{ℕ, _<_}
 use lib.ListN.{length, take, drop}
-use mathlib.Core.Bool.{true}
 use Rattle.std.specs.Runs.{EveryRun}
 use Rattle.std.specs.shelf.Lists.{All}
 use Rattle.std.specs.declared.option.Option.{Option}
 use Rattle.std.specs.declared.option.Option.the-variants.{Some, None}
 use Rattle.sheet.specs.declared.item.Item.{Item}
 use Rattle.sheet.specs.declared.reader.SheetReader.{SheetReader}
-use Rattle.sheet.specs.Lines.{Part, part, lines, parts, ended}
+use Rattle.sheet.specs.Lines.{Part, part, lines, parts, ended, line-at, place-after}
 use Rattle.sheet.specs.Orders.{content}
-use Rattle.sheet.specs.Items.{part-of, content-of, line-at, place-after}
+use Rattle.sheet.specs.Items.{part-of, content-of}
 
 -- the item is that of the line at the place `from`, and the next line begins at `to`
 pub record Read (sheet : List ℕ) (from : ℕ) (item : Item) (to : ℕ) : Type 0 where
@@ -27,6 +27,7 @@ abbrev pub Yields : List ℕ → ℕ → Option Item → ℕ → Type 0
 Yields sheet from None to = (from ≡ length sheet) × (to ≡ from)
 Yields sheet from (Some i) to = Read sheet from i to
 
+-- one call of the reader: the sheet stays, and the place goes on
 abbrev pub Steps : SheetReader → Option Item → SheetReader → Type 0
 Steps s r t = (t .sheet .now ≡ s .sheet .now) × Yields (s .sheet .now) (s .at) r (t .at)
 

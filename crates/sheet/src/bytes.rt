@@ -2,7 +2,7 @@
 ghost use mathlib.Core.Path.{_≡_};
 ghost use Prim.Native.Nat.{_≤_};
 ghost use lib.ListN.{length};
-ghost use Rattle.sheet.specs.Steps.{length-before};
+ghost use Rattle.sheet.specs.Lines.{length-before};
 
 // How many bytes stand before the first `mark`.
 pub(crate) fn length_before(bytes: &[u8], mark: u8) -> usize

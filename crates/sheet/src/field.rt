@@ -1,7 +1,7 @@
 // The decimal fields of a line.
 ghost use mathlib.Core.Path.{_≡_};
 ghost use Rattle.sheet.specs.Fields.{number-of, numbers-of, exactly};
-ghost use Rattle.sheet.specs.Steps.{with-digit, digits-after, FirstNumber};
+ghost use Rattle.sheet.specs.FieldSteps.{with-digit, digits-after, FirstNumber};
 use crate::bytes::length_before;
 
 // The number with one more digit behind it, where it still has 32 bits.

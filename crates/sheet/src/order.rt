@@ -1,14 +1,13 @@
 // The orders of a sheet, and how each is read from the fields behind its letter.
 ghost use mathlib.Core.Path.{_≡_};
-ghost use Rattle.std.specs.Options.{mapped};
-ghost use Rattle.sheet.specs.Fields.{numbers-of, exactly};
+ghost use Rattle.sheet.specs.Fields.{numbers-of};
 ghost use Rattle.sheet.specs.Orders.{hold-of, cancel-of, begin-of, finish-of, list-of};
 use crate::field::numbers;
 
 // What the writer of a sheet may ask for on a line.
 #[derive(Clone, Copy)]
 pub enum Order {
-    // Hold `wanted` units for `duration` minutes between `ready` and `deadline`, and confirm where they start by `welcome`.
+    // Hold `wanted` units for `duration` minutes between `ready` and `deadline`; confirm where they start by `welcome`, else release.
     Hold {
         ready: u32,
         duration: u32,

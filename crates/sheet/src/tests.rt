@@ -9,68 +9,53 @@ use slots::slot::Slot;
 use std::test::*;
 use units::crew::Crew;
 
-fn is_bad(line: &[u8]) -> bool {
-    matches!(SheetReader::new(line).next_item(), Some(Item::Bad(_)))
-}
-
-fn is_remark(line: &[u8]) -> bool {
-    matches!(SheetReader::new(line).next_item(), Some(Item::Remark(_)))
-}
-
-fn order_on(line: &[u8]) -> Option<Order> {
-    match SheetReader::new(line).next_item() {
-        Some(Item::Entry(_, order)) => Some(order),
-        _ => None,
+// Every line of the sheet is bad, and there are so many.
+fn check_bad(rt: &LibcRuntime, sheet: &[u8], count: usize) -> Result<(), Fail> {
+    for item in SheetReader::new(sheet) {
+        check(matches!(item, Item::Bad(_)))?;
     }
+    check_eq(items(rt.alloc(), sheet)?.len(), count)
 }
 
 #[test]
-fn fields_that_are_no_numbers() -> Result<(), Fail> {
-    check(is_bad(b"C 01"))?;
-    check(is_bad(b"C 00"))?;
-    check(is_bad(b"C  1"))?;
-    check(is_bad(b"C 4294967296"))?;
-    check(is_bad(b"C 99999999999999999999"))?;
-    check(is_bad(b"C +1"))?;
-    check(is_bad(b"C 1a"))?;
-    check(is_bad(b"C \xb2"))
+fn fields_that_are_no_numbers(rt: LibcRuntime) -> Result<(), Fail> {
+    let sheet = b"C 01\nC 00\nC  1\nC 4294967296\nC 99999999999999999999\nC +1\nC 1a\nC \xb2";
+    check_bad(&rt, sheet, 8)
 }
 
 #[test]
-fn lines_of_no_form() -> Result<(), Fail> {
-    check(is_bad(b"C 1 "))?;
-    check(is_bad(b"C 1\r\n"))?;
-    check(is_bad(b"c 1"))?;
-    check(is_bad(b"C"))?;
-    check(is_bad(b"C1"))?;
-    check(is_bad(b"C 1 2"))?;
-    check(is_bad(b"P 0 60 60 2"))?;
-    check(is_bad(b"P 0 60 60 2 0 1"))?;
-    check(is_bad(b"L "))?;
-    check(is_bad(b"LL"))?;
-    check(is_bad(b" L"))?;
-    check(is_bad(b"\x00"))
+fn lines_of_no_form(rt: LibcRuntime) -> Result<(), Fail> {
+    let sheet = b"C 1 \nC 1\r\nc 1\nC\nC1\nC 1 2\nP 0 60 60 2\nP 0 60 60 2 0 1\nL \nLL\n L\n\x00\n";
+    check_bad(&rt, sheet, 12)
 }
 
 #[test]
 fn orders_with_their_numbers() -> Result<(), Fail> {
-    let hold = order_on(b"P 0 60 300 2 7\n");
-    check(matches!(
-        hold,
-        Some(Order::Hold {
-            ready: 0,
-            duration: 60,
-            deadline: 300,
-            wanted: 2,
-            welcome: 7
-        })
-    ))?;
-    check(matches!(order_on(b"C 4294967295"), Some(Order::Cancel(4294967295))))?;
-    check(matches!(order_on(b"B 0"), Some(Order::Begin(0))))?;
-    check(matches!(order_on(b"F 10"), Some(Order::Finish(10))))?;
-    check(matches!(order_on(b"L"), Some(Order::List)))?;
-    check(is_remark(b"#C 1"))?;
-    check(is_remark(b"\n"))
+    for item in SheetReader::new(b"P 0 60 60 2 0\nC 4294967295\nB 0\nF 10\nL\n#C 1\n\n") {
+        let as_written = match item {
+            Item::Entry(
+                line,
+                Order::Hold {
+                    ready,
+                    duration,
+                    deadline,
+                    wanted,
+                    welcome,
+                },
+            ) => {
+                let times = ready == 0 && duration == 60 && deadline == 60;
+                times && wanted == 2 && welcome == 0 && line.at == 0
+            }
+            Item::Entry(line, Order::Cancel(number)) => number == 4294967295 && line.at == 14,
+            Item::Entry(line, Order::Begin(number)) => number == 0 && line.at == 27,
+            Item::Entry(line, Order::Finish(number)) => number == 10 && line.at == 31,
+            Item::Entry(line, Order::List) => line.at == 36,
+            Item::Remark(line) => line.at == 38 || line.at == 43,
+            Item::Bad(_) => false,
+        };
+        check(as_written)?;
+    }
+    Ok(())
 }
 
 #[test]

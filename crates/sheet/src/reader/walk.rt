@@ -1,10 +1,10 @@
 // The steps of the reader.
 ghost use mathlib.Core.Path.{_≡_};
 ghost use Prim.Native.Nat.{_-_, _<_};
-ghost use lib.ListN.{length, drop};
+ghost use lib.ListN.{length};
 ghost use Rattle.std.specs.Of.Vec.{vec-items};
 ghost use Rattle.std.specs.Vec.{made};
-ghost use Rattle.sheet.specs.Items.{line-at, place-after};
+ghost use Rattle.sheet.specs.Lines.{line-at, place-after};
 ghost use Rattle.sheet.specs.Reading.{Steps, Whole};
 use super::SheetReader;
 use crate::bytes::length_before;
@@ -74,6 +74,7 @@ pub impl<'a> Iterator for SheetReader<'a> as SheetItems {
 pub fn items<'a>(heap: Global, sheet: &'a [u8]) -> Result<Vec<Item<'a>>, AllocError>
     ensures { λ r. ⌜ made r (λ v. Whole (now (sheet .entry)) (vec-items v)) ⌝ }
 {
+    // The theorem on the reader's runs, from which the contract follows; it does nothing.
     let _ = no_line_is_lost();
     SheetReader::new(sheet).collect(heap)
 }

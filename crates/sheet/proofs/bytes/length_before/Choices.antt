@@ -1,7 +1,7 @@
 use Prim.Native.Nat.{_+_}
 use mathlib.Core.Path.{_≡_}
 use lib.ListN.{drop}
-use Rattle.sheet.specs.Steps.{length-before}
+use Rattle.sheet.specs.Lines.{length-before}
 use Rattle.sheet.proofs.bytes.length_before.Given as given
 
 abbrev pub Inv-loop-i : given.InvT-loop-i

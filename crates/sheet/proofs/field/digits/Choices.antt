@@ -1,7 +1,7 @@
 use mathlib.Core.Path.{_≡_}
 use Prim.Native.Nat.{_≤_}
 use lib.ListN.{drop}
-use Rattle.sheet.specs.Steps.{digits-after}
+use Rattle.sheet.specs.FieldSteps.{digits-after}
 use Rattle.sheet.proofs.field.digits.Given as given
 
 abbrev pub Inv-loop-byte : given.InvT-loop-byte

@@ -3,7 +3,7 @@ use Prim.Native.Nat.{_≤_}
 use native.Mathlib.Omega.{arith}
 use lib.ListN.{length, drop, length-drop}
 use Rattle.std.proofs.shelf.Lists.{take-rest}
-use Rattle.sheet.specs.Steps.{length-before}
+use Rattle.sheet.specs.Lines.{length-before}
 use Rattle.sheet.proofs.Marks.{before-within, cut-before}
 use Rattle.sheet.proofs.reader.walk.cut.Needs as need
 

@@ -1,11 +1,11 @@
--- What the inner functions answer on the way over a line. Assumes nothing.
+-- What the functions answer that read the fields one by one. Assumes nothing.
 use mathlib.Core.Path.{_≡_}
 use mathlib.Core.Logic.{_⊎_}
-use mathlib.Core.List.{List, [], _∷_}
-use mathlib.Core.Bool.{cond, _&&_}
-use Prim.Native.Nat.{ℕ, _+_, _-_, _*_, suc}
+use mathlib.Core.List.{List, []}
+use mathlib.Core.Bool.{_&&_}
+use Prim.Native.Nat.{ℕ, _+_, _-_, _*_}
 use denote.Ref.{RefT}
-use lib.Dec.{eqb, leb}
+use lib.Dec.{leb}
 use Rattle.std.specs.Options.{whenTrue}
 use Rattle.std.specs.Text.{asciiDigit}
 use Rattle.std.specs.shelf.Text.{allDigits}
@@ -13,11 +13,7 @@ use Rattle.std.specs.declared.option.Option.{Option}
 use Rattle.std.specs.declared.option.Option.the-variants.{Some, None}
 use Rattle.sheet.specs.Fields.{value-after, with-first, numbers-of}
 
--- how many bytes stand before the first mark
-abbrev pub length-before : ℕ → List ℕ → ℕ
-length-before mark [] = 0
-length-before mark (b ∷ bs) = cond (eqb b mark) 0 (suc (length-before mark bs))
-
+-- the number n with one more digit behind it
 abbrev pub with-digit : ℕ → ℕ → Option ℕ
 with-digit n b = whenTrue (asciiDigit b && leb (n * 10 + (b - 48)) 4294967295) (n * 10 + (b - 48))
 
