@@ -13,3 +13,4 @@ pub mod Unbooked
 pub mod Answered
 pub mod Booked
 pub mod Searched
+pub mod Stays

@@ -1,13 +1,16 @@
 -- What the calls return, by what they are answered. Assumes nothing.
+use mathlib.Core.Path.{_≡_}
 use Prim.Native.Nat.{ℕ}
 use mathlib.Core.Bool.{Bool, true, false}
 use Rattle.std.specs.declared.result.Result.{Result}
 use Rattle.std.specs.declared.result.Result.the-variants.{Ok, Err}
+use Rattle.units.specs.Kinds.{Kind}
 use Rattle.bookings.specs.Table.{Fate, becomes, leaves, barred}
 use Rattle.bookings.specs.declared.booking.Booking.{Booking}
+use Rattle.bookings.specs.declared.event.Event.the-variants.{Confirm, Release}
 use Rattle.bookings.specs.declared.refusal.Refusal.{Refusal}
 use Rattle.bookings.specs.declared.refusal.Refusal.the-variants.{NoGap}
-use Rattle.board.specs.Calls.{Answer, given, done, refused}
+use Rattle.board.specs.Calls.{Holding, Answer, given, done, refused, move, answer}
 use Rattle.board.specs.declared.grant.Grant.{Grant}
 use Rattle.board.specs.declared.token.HoldToken.{HoldToken}
 
@@ -40,3 +43,8 @@ abbrev pub hold-result : {L : Type 0} → Answer L → Result (Grant L) Refusal
 hold-result (given n x) = Ok (grant-of n x)
 hold-result done = Err NoGap
 hold-result (refused why) = Err why
+
+-- the board takes the token of this grant, to confirm it or to release it
+abbrev pub Takes : {L : Type 0} → Kind L → Holding L → Result (Grant L) Refusal → Type 0
+Takes k board (Ok grant) = (answer k board (move Confirm (grant .token .number)) ≡ done) × (answer k board (move Release (grant .token .number)) ≡ done) × (grant .token .number ≡ grant .number)
+Takes k board (Err why) = Unit {0}

@@ -7,7 +7,7 @@ ghost use Rattle.std.specs.declared.option.Option.the-variants.{Some, None};
 ghost use Rattle.planning.specs.Policies.{Preference};
 ghost use Rattle.bookings.specs.Grants.{booked};
 ghost use Rattle.board.specs.Calls.{hold, hold-check, answer, after, found-on, with-booking};
-ghost use Rattle.board.specs.Results.{hold-result, grant-of};
+ghost use Rattle.board.specs.Results.{hold-result, grant-of, Takes};
 ghost use Rattle.board.specs.Views.{holding, behind};
 use crate::board::Board;
 use crate::changes::Put;
@@ -100,10 +100,11 @@ impl<'m, L: Units> Board<'m, L> {
         }
     }
 
-    // Holds the booking that the policy ranks best, or says why not.
+    // Holds the booking that the policy ranks best, or says why not. The board takes the token of what it grants.
     pub fn hold<P: Policy>(&mut self, request: Request, policy: &P) -> Result<Grant<L>, Refusal>
         ensures answer { λ r. ⌜ r ≡ hold-result (answer kind (holding (now (self .entry))) (hold request (preference (now (policy .entry))))) ⌝ }
         ensures board { λ _. ⌜ holding (now (self .exit)) ≡ after kind (holding (now (self .entry))) (hold request (preference (now (policy .entry)))) ⌝ }
+        ensures takes { λ r. ⌜ Takes kind (holding (now (self .exit))) r ⌝ }
         ensures rest { λ _. ⌜ behind (now (self .exit)) ≡ behind (now (self .entry)) ⌝ }
         ensures lent { λ _. ⌜ name (now (self .exit) .rows .rows) ≡ name (now (self .entry) .rows .rows) ⌝ ∗ ⌜ name (now (self .exit) .slots .slots) ≡ name (now (self .entry) .slots .slots) ⌝ }
     {

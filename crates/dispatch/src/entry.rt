@@ -3,11 +3,10 @@ ghost use denote.Ref.{now, name};
 ghost use mathlib.Core.Path.{_≡_};
 ghost use mathlib.Core.Bool.{true};
 ghost use Rattle.std.specs.Results.{isOk};
-ghost use Rattle.std.specs.declared.option.Option.the-variants.{Some};
+ghost use Rattle.std.specs.declared.result.Result.the-variants.{Ok};
 ghost use Rattle.units.specs.Crews.{crew-kind};
-ghost use Rattle.bookings.specs.Rows.{numbered, row-of};
-ghost use Rattle.bookings.specs.declared.row.State.the-variants.{Held};
 ghost use Rattle.board.specs.Calls.{given, move, hold, answer, after};
+ghost use Rattle.board.specs.Results.{Takes};
 ghost use Rattle.board.specs.Views.{holding};
 ghost use Rattle.planning.specs.Rules.{earliest-start};
 ghost use Rattle.sheet.specs.Items.{content-of};
@@ -27,7 +26,7 @@ use units::crew::Crew;
 use units::crew::CrewUnits;
 use units::crew::CrewValue;
 
-// The token was taken, since its booking was held.
+// The token was taken, as the board takes the token of what it has granted.
 fn spent(result: Result<(), HoldToken>)
     requires { ⌜ isOk result ≡ true ⌝ }
 {
@@ -39,7 +38,7 @@ fn spent(result: Result<(), HoldToken>)
 
 // Confirms a booking that starts by the welcome minute, and releases any other.
 fn settle(board: &mut Board<'_, Crew>, grant: Grant<Crew>, welcome: u32) -> Answer
-    requires { ⌜ numbered (grant .number) (holding (now board) .book .rows) ≡ Some (row-of (grant .number) (booking-in grant) Held) ⌝ ∗ ⌜ grant .token .number ≡ grant .number ⌝ }
+    requires { ⌜ Takes crew-kind (holding (now board)) (Ok grant) ⌝ }
     ensures answer { λ r. ⌜ r ≡ hold-reply welcome (given (grant .number) (booking-in grant)) ⌝ }
     ensures board { λ _. ⌜ holding (now (board .exit)) ≡ after crew-kind (holding (now (board .entry))) (move (settling welcome (booking-in grant)) (grant .number)) ⌝ }
     ensures lent { λ _. ⌜ name (now (board .exit) .rows .rows) ≡ name (now (board .entry) .rows .rows) ⌝ ∗ ⌜ name (now (board .exit) .slots .slots) ≡ name (now (board .entry) .slots .slots) ⌝ }
@@ -70,7 +69,6 @@ fn held(board: &mut Board<'_, Crew>, request: Request, welcome: u32) -> Answer
     ensures board { λ _. ⌜ holding (now (board .exit)) ≡ hold-leaves welcome (after crew-kind (holding (now (board .entry))) (hold request earliest-start)) (answer crew-kind (holding (now (board .entry))) (hold request earliest-start)) ⌝ }
     ensures lent { λ _. ⌜ name (now (board .exit) .rows .rows) ≡ name (now (board .entry) .rows .rows) ⌝ ∗ ⌜ name (now (board .exit) .slots .slots) ≡ name (now (board .entry) .slots .slots) ⌝ }
 {
-    board.keeps();
     match board.hold(request, &EarliestStart) {
         Ok(grant) => settle(board, grant, welcome),
         Err(refusal) => Answer::Refused(refusal.number()),

@@ -42,14 +42,14 @@ module _ {L : Type 0} (k : Kind L) (over : L) where
         | inr q ↦ step-loud f s n (here ∙ q) ∙ sym (step-loud g s n q)
       ]
 
-  still : (f : ℕ → L) (b : L) (s a r n t : ℕ) → a + r ≡ n → s + a ≡ t → quiet k over b ≡ true → ((m : ℕ) → s ≤ m → m < t → f m ≡ b) → closing-of k f over s n ≡ closing-of k f over t r
-  still f b s zero r n t e g q h =
+  -- no load from s up to t adds something
+  pub close-still : (f : ℕ → L) (s a r n t : ℕ) → a + r ≡ n → s + a ≡ t → ((m : ℕ) → s ≤ m → m < t → quiet k over (f m) ≡ true) → closing-of k f over s n ≡ closing-of k f over t r
+  close-still f s zero r n t e g h =
       let p : n ≡ r = omega arith in
       let i : s ≡ t = omega arith in
       ap₂ (closing-of k f over) i p
-  still f b s (suc a) r zero t e g q h = absurd (omega arith)
-  still f b s (suc a) r (suc n) t e g q h =
-      step-quiet f s n (ap (quiet k over) (h s (omega arith) (omega arith)) ∙ q) ∙ still f b (suc s) a r n t (omega arith) (omega arith) q (λ m l u. h m (omega arith) u)
+  close-still f s (suc a) r zero t e g h = absurd (omega arith)
+  close-still f s (suc a) r (suc n) t e g h = step-quiet f s n (h s (omega arith) (omega arith)) ∙ close-still f (suc s) a r n t (omega arith) (omega arith) (λ m l u. h m (omega arith) u)
 
   -- where the load of s adds something
   pub at-once : (s h : ℕ) (b : L) (xs : List (Slot L)) → Ascending (suc s) xs → quiet k over b ≡ false → closing-of k (at b xs) over s (h - s) ≡ s
@@ -61,14 +61,14 @@ module _ {L : Type 0} (k : Kind L) (over : L) where
 
   -- where it adds nothing
   pub closes-is : (s h : ℕ) (b : L) (xs : List (Slot L)) → Ascending (suc s) xs → s ≤ h → quiet k over b ≡ true → closing-of k (at b xs) over s (h - s) ≡ first-loud k over h xs
-  closes-is s h b [] a l q = still (at b []) b s (h - s) 0 (h - s) h (omega arith) (omega arith) q (λ m i j. refl)
+  closes-is s h b [] a l q = close-still (at b []) s (h - s) 0 (h - s) h (omega arith) (omega arith) (λ m i j. q)
   closes-is s h b (x ∷ xs) a l q =
       elim (cases-lt (x .minute) h) [
         | inr u ↦
-            still (at b (x ∷ xs)) b s (h - s) 0 (h - s) h (omega arith) (omega arith) q (λ m i j. at-before (suc s) b x xs m a (omega arith))
+            close-still (at b (x ∷ xs)) s (h - s) 0 (h - s) h (omega arith) (omega arith) (λ m i j. ap (quiet k over) (at-before (suc s) b x xs m a (omega arith)) ∙ q)
             ∙ sym (none-past h h (x ∷ xs) (u, a .1) (omega arith))
         | inl u ↦
-            still (at b (x ∷ xs)) b s (x .minute - s) (h - x .minute) (h - s) (x .minute) (omega arith) (omega arith) q (λ m i j. at-before (suc s) b x xs m a j)
+            close-still (at b (x ∷ xs)) s (x .minute - s) (h - x .minute) (h - s) (x .minute) (omega arith) (omega arith) (λ m i j. ap (quiet k over) (at-before (suc s) b x xs m a j) ∙ q)
             ∙ same-close (at b (x ∷ xs)) (at (x .value) xs) (x .minute) (h - x .minute) (λ m i. at-after b x xs m i)
             ∙ elim (cases-bool (quiet k over (x .value))) [
               | inl y ↦ closes-is (x .minute) h (x .value) xs (a .1) (omega arith) y ∙ sym (cond-true _ _ _ y)

@@ -9,6 +9,7 @@ pub mod Members
 pub mod Joins
 pub mod Slides
 pub mod Stretches
+pub mod Hits
 pub mod Choices
 pub mod Rights
 pub mod Orders

@@ -13,7 +13,7 @@ use Rattle.slots.specs.declared.slot.Slot.{Slot}
 use Rattle.planning.specs.Requests.{in-window, enough}
 use Rattle.planning.specs.Search.{joined-over, free-from}
 use Rattle.planning.specs.Rectangles.{opening-of, closing-of, rectangle}
-use Rattle.planning.specs.Tries.{found-at}
+use Rattle.planning.specs.Tries.{found-at, Is-hit}
 use Rattle.planning.specs.Walks.{upto, last-value}
 use Rattle.planning.specs.declared.request.Request.{Request}
 use Rattle.planning.proofs.Splits.{after-rises, here-is, at-late, at-soon}
@@ -37,6 +37,12 @@ module _ {L : Type 0} (k : Kind L) (s : ℕ) (xs : List (Slot L)) (asc : Ascendi
   late : (n : ℕ) → s ≤ n → at here after n ≡ load n
   late n l = ap₂ (λ v q. at v q n) (stands ∙ ap (last-value (k .nothing)) before-is ∙ here-is s 0 (k .nothing) xs asc) after-is ∙ sym (at-late s 0 (k .nothing) xs asc n l)
 
+  pub opening-is : (over : L) → opening-of k (at (k .nothing) before) over s ≡ opening-of k load over s
+  opening-is over = same-open k over (at (k .nothing) before) load s (λ n l. ap (λ q. at (k .nothing) q n) before-is ∙ sym (at-soon s 0 (k .nothing) xs asc n (omega arith)))
+
+  pub closing-is : (over : L) (h : ℕ) → closing-of k (at here after) over s (h - s) ≡ closing-of k load over s (h - s)
+  closing-is over h = same-close k over (at here after) load s (h - s) late
+
   pub joined-is : (over : L) (d : ℕ) → over ≡ joined-over k (at here after) s d → over ≡ joined-over k load s d
   joined-is over d e = e ∙ over-same k (at here after) load s d late
 
@@ -47,10 +53,10 @@ module _ {L : Type 0} (k : Kind L) (s : ℕ) (xs : List (Slot L)) (asc : Ascendi
     pub none-found : units < request .wanted → None ≡ found-at k c h load request s
     none-found short = sym (cond-false _ _ _ (and-right (in-window request s) (enough (request .wanted) (free-from k c load request s)) (lt-leb (request .wanted) (free-from k c load request s) (omega (arith, free-is)))))
 
-    pub some-found : (o z : ℕ) → o ≡ opening-of k (at (k .nothing) before) over s → z ≡ closing-of k (at here after) over s (h - s) → request .wanted ≤ units → Some (record { start = s; units = units; opening = o; closing = z }) ≡ found-at k c h load request s
-    some-found o z opens closes plenty =
+    pub some-found : (o z : ℕ) → o ≡ opening-of k load over s → z ≡ closing-of k load over s (h - s) → request .wanted ≤ units → (Some (record { start = s; units = units; opening = o; closing = z }) ≡ found-at k c h load request s) × Is-hit k c h load request (Some (record { rectangle = record { start = s; units = units; opening = o; closing = z }; over = over }))
+    some-found o z opened closed plenty =
         let all = joined-is over (request .duration) met in
-        let opened = opens ∙ same-open k over (at (k .nothing) before) load s (λ n l. ap (λ q. at (k .nothing) q n) before-is ∙ sym (at-soon s 0 (k .nothing) xs asc n (omega arith))) in
-        let closed = closes ∙ same-close k over (at here after) load s (h - s) late in
-        let own : record { start = s; units = units; opening = o; closing = z } ≡ rectangle k c h load request s = cc in
-        ap Some own ∙ sym (cond-true _ _ _ (and-from (in-window request s) (enough (request .wanted) (free-from k c load request s)) inside (le-leb (request .wanted) (free-from k c load request s) (omega (arith, free-is)))))
+        let own : record { start = s; units = units; opening = o; closing = z } ≡ rectangle k c h load request s = cc in (
+          ap Some own ∙ sym (cond-true _ _ _ (and-from (in-window request s) (enough (request .wanted) (free-from k c load request s)) inside (le-leb (request .wanted) (free-from k c load request s) (omega (arith, free-is))))),
+          (own, all),
+        )

@@ -32,10 +32,11 @@ module _ {L : Type 0} (k : Kind L) (over : L) where
         | inr q ↦ step-loud f s (here ∙ q) ∙ sym (step-loud g s q)
       ]
 
-  still : (f : ℕ → L) (b : L) (a j t : ℕ) → a + j ≡ t → quiet k over b ≡ true → ((n : ℕ) → a ≤ n → n < t → f n ≡ b) → opening-of k f over t ≡ opening-of k f over a
-  still f b a zero t e q h = let p : t ≡ a = omega arith in ap (opening-of k f over) p
-  still f b a (suc j) zero e q h = absurd (omega arith)
-  still f b a (suc j) (suc t) e q h = step-quiet f t (ap (quiet k over) (h t (omega arith) (omega arith)) ∙ q) ∙ still f b a j t (omega arith) q (λ n l u. h n l (omega arith))
+  -- no load from a up to t adds something
+  pub open-still : (f : ℕ → L) (a j t : ℕ) → a + j ≡ t → ((n : ℕ) → a ≤ n → n < t → quiet k over (f n) ≡ true) → opening-of k f over t ≡ opening-of k f over a
+  open-still f a zero t e h = let p : t ≡ a = omega arith in ap (opening-of k f over) p
+  open-still f a (suc j) zero e h = absurd (omega arith)
+  open-still f a (suc j) (suc t) e h = step-quiet f t (h t (omega arith) (omega arith)) ∙ open-still f a j t (omega arith) (λ n l u. h n l (omega arith))
 
   module _ (b : L) (x : Slot L) (xs : List (Slot L)) where
     from-last : (n : ℕ) → x .minute ≤ n → at b (xs ++ (x ∷ [])) n ≡ x .value
@@ -49,7 +50,7 @@ module _ {L : Type 0} (k : Kind L) (over : L) where
     too-late t l = same-open (at b (xs ++ (x ∷ []))) (at b xs) t (λ n u. before-last n (omega arith))
 
     pub is-quiet : (t : ℕ) → x .minute < t → quiet k over (x .value) ≡ true → opening-of k (at b (xs ++ (x ∷ []))) over t ≡ opening-of k (at b xs) over (x .minute)
-    is-quiet t l q = still (at b (xs ++ (x ∷ []))) (x .value) (x .minute) (t - x .minute) t (omega arith) q (λ n u z. from-last n u) ∙ too-late (x .minute) (omega arith)
+    is-quiet t l q = open-still (at b (xs ++ (x ∷ []))) (x .minute) (t - x .minute) t (omega arith) (λ n u z. ap (quiet k over) (from-last n u) ∙ q) ∙ too-late (x .minute) (omega arith)
 
     pub is-loud : (t : ℕ) → x .minute < t → quiet k over (x .value) ≡ false → opening-of k (at b (xs ++ (x ∷ []))) over t ≡ t
     is-loud zero l q = absurd (omega arith)
@@ -59,4 +60,4 @@ module _ {L : Type 0} (k : Kind L) (over : L) where
 pub opens-first : {L : Type 0} (k : Kind L) {c : ℕ} (laws : Laws k c) (over : L) (t : ℕ) → opening-of k (at (k .nothing) []) over t ≡ 0
 opens-first k laws over t =
     let silent : quiet k over (k .nothing) ≡ true = ap (λ v. k .same v over) (laws .joined-turned over (k .nothing) ∙ laws .joined-nothing over) ∙ laws .same-self over in
-    still k over (at (k .nothing) []) (k .nothing) 0 t t (omega arith) silent (λ n l u. refl)
+    open-still k over (at (k .nothing) []) 0 t t (omega arith) (λ n l u. silent)

@@ -25,7 +25,7 @@ module _ {L : Type 0} (k : Kind L) (c : ℕ) (laws : Laws k c) where
       ]
 
   module _ (load : ℕ → L) (over : L) where
-    abbrev Silent : ℕ → Type 0
+    abbrev pub Silent : ℕ → Type 0
     Silent m = k .joined over (load m) ≡ over
 
     abbrev silent : ℕ → Bool
@@ -37,7 +37,7 @@ module _ {L : Type 0} (k : Kind L) (c : ℕ) (laws : Laws k c) where
     not-silent : (m : ℕ) → silent m ≡ false → Silent m → ⊥
     not-silent m e p = both-ways (silent m) e (subst (λ v. So (k .same (k .joined over (load m)) v)) p (laws .same-self (k .joined over (load m))))
 
-    abbrev opened : ℕ → ℕ → Type 0
+    abbrev pub opened : ℕ → ℕ → Type 0
     opened s o = (o ≤ s) × ((m : ℕ) → o ≤ m → m < s → Silent m) × ((a : ℕ) → a ≤ s → ((m : ℕ) → a ≤ m → m < s → Silent m) → o ≤ a)
 
     open-step : (s : ℕ) → opened s (opening-of k load over s) → (t : Bool) → silent s ≡ t → opened (suc s) (elim t [ true ↦ opening-of k load over s | false ↦ suc s ])
@@ -52,11 +52,11 @@ module _ {L : Type 0} (k : Kind L) (c : ℕ) (laws : Laws k c) where
       λ a l f. elim (cases-lt s a) [ inl u ↦ u | inr u ↦ absurd (not-silent s e (f s u (omega arith))) ],
     )
 
-    opens : (s : ℕ) → opened s (opening-of k load over s)
+    pub opens : (s : ℕ) → opened s (opening-of k load over s)
     opens zero = (omega arith, λ m l u. absurd (omega arith), λ a l f. omega arith)
     opens (suc s) = open-step s (opens s) (silent s) refl
 
-    abbrev closed : ℕ → ℕ → ℕ → Type 0
+    abbrev pub closed : ℕ → ℕ → ℕ → Type 0
     closed s h e = (s ≤ e) × (e ≤ h) × ((m : ℕ) → s ≤ m → m < e → Silent m) × ((z : ℕ) → s ≤ z → z ≤ h → ((m : ℕ) → s ≤ m → m < z → Silent m) → z ≤ e)
 
     close-step : (s n h : ℕ) → s + suc n ≡ h → closed (suc s) h (closing-of k load over (suc s) n) → (t : Bool) → silent s ≡ t → closed s h (elim t [ true ↦ closing-of k load over (suc s) n | false ↦ s ])
@@ -73,7 +73,7 @@ module _ {L : Type 0} (k : Kind L) (c : ℕ) (laws : Laws k c) where
       λ z l u f. elim (cases-lt s z) [ inl y ↦ absurd (not-silent s e (f s (omega arith) y)) | inr y ↦ y ],
     )
 
-    closes : (s n h : ℕ) → s + n ≡ h → closed s h (closing-of k load over s n)
+    pub closes : (s n h : ℕ) → s + n ≡ h → closed s h (closing-of k load over s n)
     closes s zero h e = (omega arith, omega arith, λ m l u. absurd (omega arith), λ z l u f. omega arith)
     closes s (suc n) h e = close-step s n h e (closes (suc s) n h (omega arith)) (silent s) refl
 

@@ -69,15 +69,9 @@ module _ {L : Type 0} (k : Kind L) (c : ℕ) (p : Preference) (h : ℕ) (load : 
             ]
       ]
 
-  first-found : (b : Option Rectangle) → better-of p None b ≡ b
-  first-found None = refl
-  first-found (Some q) = refl
-
-  -- what is granted, once the first start was tried
-  pub granted-is : (xs : List (Slot L)) → trying k c p h load request (found-at k c h load request (request .ready)) (latest request ∷ (minutes xs ++ map (λ m. m - request .duration) (minutes xs))) ≡ granted k c p h load request xs
-  granted-is xs =
-      let ss = latest request ∷ (minutes xs ++ map (λ m. m - request .duration) (minutes xs)) in
-      sym (ap (λ v. trying k c p h load request v ss) (first-found (found-at k c h load request (request .ready)))) ∙ sym (in-turn None (request .ready ∷ ss))
+  -- what is granted
+  pub granted-is : (xs : List (Slot L)) → trying k c p h load request None (request .ready ∷ latest request ∷ (minutes xs ++ map (λ m. m - request .duration) (minutes xs))) ≡ granted k c p h load request xs
+  granted-is xs = sym (in-turn None (request .ready ∷ latest request ∷ (minutes xs ++ map (λ m. m - request .duration) (minutes xs))))
 
   -- one start that is tried
   pub turn : (b more found : Option Rectangle) (s : ℕ) (ss : List ℕ) → found ≡ found-at k c h load request s → more ≡ better-of p b found → trying k c p h load request b (s ∷ ss) ≡ trying k c p h load request more ss

@@ -6,7 +6,7 @@ ghost use lib.ListN.{length, drop};
 ghost use Rattle.planning.specs.Policies.{before, granted, found};
 ghost use Rattle.planning.specs.Requests.{in-window};
 ghost use Rattle.planning.specs.Right.{Right};
-ghost use Rattle.planning.specs.Tries.{found-at, better-of, trying};
+ghost use Rattle.planning.specs.Tries.{found-at, rectangle-of, Is-hit, Goes-on, better-of, trying};
 ghost use Rattle.planning.specs.declared.rectangle.Rectangle.{Rectangle};
 ghost use Rattle.slots.specs.Stepped.{at, minutes, ascends, Ascending};
 ghost use Rattle.std.specs.declared.option.Option.the-variants.{Some};
@@ -23,6 +23,13 @@ use crate::walk::opening;
 use slots::slot::Slot;
 use units::kind::Units;
 
+// A start that was found: its rectangle, and the joined loads that the request meets there.
+#[derive(Clone, Copy)]
+struct Hit<L> {
+    rectangle: Rectangle,
+    over: L,
+}
+
 // Would the request begin when it is ready or later, and end by its deadline?
 fn in_window(request: Request, start: u32) -> bool
     ensures { λ r. ⌜ r ≡ in-window request start ⌝ }
@@ -32,7 +39,15 @@ fn in_window(request: Request, start: u32) -> bool
         && request.duration <= request.deadline - start
 }
 
-// The rectangle of `start`, if the request can start there. No record from `hint` on stands at or before it.
+// Is the stretch around `start`, where the request meets `over`, sure to be that of the hit?
+fn goes_on<L: Units>(hit: Hit<L>, over: L, start: u32, horizon: u32) -> bool
+    ensures { λ r. ⌜ (r ≡ true → Goes-on hit over start horizon) ⌝ }
+{
+    let r = hit.rectangle;
+    r.opening <= start && start < r.closing && r.closing <= horizon && hit.over.same(over)
+}
+
+// The hit of `start`, if the request can start there. No record from `hint` on stands at or before it; the last hit may spare a walk.
 fn found_at<L: Units>(
     slots: &[Slot<L>],
     hint: usize,
@@ -40,9 +55,10 @@ fn found_at<L: Units>(
     horizon: u32,
     request: Request,
     start: u32,
-) -> Option<Rectangle>
+    last: Option<Hit<L>>,
+) -> Option<Hit<L>>
     requires { ⌜ hint ≤ length (now slots) ⌝ }
-    ensures { λ r. ⌜ (Ascending 0 (now (slots .entry)) → Ascending (suc start) (drop hint (now (slots .entry))) → r ≡ found-at kind capacity horizon (at (kind .nothing) (now (slots .entry))) request start) ⌝ }
+    ensures { λ r. ⌜ (Ascending 0 (now (slots .entry)) → Ascending (suc start) (drop hint (now (slots .entry))) → Is-hit kind capacity horizon (at (kind .nothing) (now (slots .entry))) request last → (rectangle-of r ≡ found-at kind capacity horizon (at (kind .nothing) (now (slots .entry))) request start) × Is-hit kind capacity horizon (at (kind .nothing) (now (slots .entry))) request r) ⌝ }
 {
     if !in_window(request, start) {
         return None;
@@ -54,12 +70,22 @@ fn found_at<L: Units>(
     if units < request.wanted {
         return None;
     }
-    Some(Rectangle {
+    let (opening, closing) = match last {
+        Some(hit) if goes_on(hit, over, start, horizon) => {
+            (hit.rectangle.opening, hit.rectangle.closing)
+        }
+        _ => (
+            opening(before, over, start),
+            closing(here, after, over, start, horizon),
+        ),
+    };
+    let rectangle = Rectangle {
         start,
         units,
-        opening: opening(before, over, start),
-        closing: closing(here, after, over, start, horizon),
-    })
+        opening,
+        closing,
+    };
+    Some(Hit { rectangle, over })
 }
 
 // Is `a` preferred, or no less preferred and earlier?
@@ -70,19 +96,19 @@ fn goes_before<P: Policy>(policy: &P, a: &Rectangle, b: &Rectangle) -> bool
 }
 
 // The best so far, unless the next goes before it.
-fn better_of<P: Policy>(
+fn better_of<L: Units, P: Policy>(
     policy: &P,
     best: Option<Rectangle>,
-    next: Option<Rectangle>,
+    next: Option<Hit<L>>,
 ) -> Option<Rectangle>
-    ensures { λ r. ⌜ r ≡ better-of (preference (now (policy .entry))) best next ⌝ }
+    ensures { λ r. ⌜ r ≡ better-of (preference (now (policy .entry))) best (rectangle-of next) ⌝ }
 {
     match (best, next) {
         (_, None) => best,
-        (None, Some(_)) => next,
+        (None, Some(q)) => Some(q.rectangle),
         (Some(r), Some(q)) => {
-            if goes_before(policy, &q, &r) {
-                next
+            if goes_before(policy, &q.rectangle, &r) {
+                Some(q.rectangle)
             } else {
                 best
             }
@@ -113,11 +139,13 @@ fn best_ahead<L: Units, P: Policy>(
     ensures { λ r. ⌜ (Ascending 0 (now (slots .entry)) → r ≡ trying kind capacity (preference (now (policy .entry))) horizon (at (kind .nothing) (now (slots .entry))) request «so_far» (map (λ m. m - lead) (minutes (now (slots .entry))))) ⌝ }
 {
     let mut best = so_far;
+    let mut last = None;
     for (i, slot) in slots.iter().enumerate() {
         let start = slot.minute.saturating_sub(lead);
         if !settled(policy, best, start) {
-            let found = found_at(slots, i + 1, capacity, horizon, request, start);
+            let found = found_at(slots, i + 1, capacity, horizon, request, start, last);
             best = better_of(policy, best, found);
+            last = found.or(last);
         }
     }
     best
@@ -136,9 +164,10 @@ pub fn find_start<L: Units, P: Policy>(
 {
     let all = slots.len();
     let latest = request.deadline.saturating_sub(request.duration);
-    let soonest = found_at(slots, all, capacity, horizon, request, request.ready);
-    let last = found_at(slots, all, capacity, horizon, request, latest);
-    let ends = better_of(policy, soonest, last);
+    let soonest = found_at(slots, all, capacity, horizon, request, request.ready, None);
+    let first = better_of(policy, None, soonest);
+    let last = found_at(slots, all, capacity, horizon, request, latest, soonest);
+    let ends = better_of(policy, first, last);
     let begins = best_ahead(slots, capacity, horizon, request, policy, 0, ends);
     best_ahead(
         slots,

@@ -2,6 +2,7 @@ use mathlib.Core.Path.{_≡_, refl, sym, ap, ap₂, subst, _∙_}
 use mathlib.Core.Bool.{true}
 use mathlib.Core.List.{List, [], _∷_, map}
 use Prim.Native.Nat.{ℕ, suc, _-_}
+use Rattle.std.specs.declared.option.Option.the-variants.{None}
 use native.Mathlib.Omega.{arith}
 use lib.ListN.{length}
 use Rattle.std.proofs.shelf.Lists.{drop-all}
@@ -29,13 +30,13 @@ returns g c =
     let request = c .args .request in
     let last = map (λ m. m - request .duration) (minutes xs) in
     let try = trying k n p h load request in
-    let first = found-at k n h load request (request .ready) in
-    let both = better-of p first (found-at k n h load request (latest request)) in
+    let both = better-of p (better-of p None (found-at k n h load request (request .ready))) (found-at k n h load request (latest request)) in
     let none = λ (s : ℕ). subst (Ascending (suc s)) (sym (drop-all (length xs) xs (omega arith))) tt in
     let which : ascends 0 xs ≡ true → c .best-ahead .result ≡ granted k n p h load request xs = λ up.
     let asc = ascending 0 xs up in
-    let late = c .found-at-last .ensures asc (none (c .saturating-sub-latest .result)) ∙ ap (found-at k n h load request) (c .saturating-sub-latest .ensures) in
-    let ends = c .better-of-ends .ensures ∙ ap₂ (better-of p) (c .found-at-soonest .ensures asc (none (request .ready))) late in
+    let soon = c .found-at-soonest .ensures asc (none (request .ready)) tt in
+    let late = c .found-at-last .ensures asc (none (c .saturating-sub-latest .result)) (soon .1) .0 ∙ ap (found-at k n h load request) (c .saturating-sub-latest .ensures) in
+    let ends = c .better-of-ends .ensures ∙ ap₂ (better-of p) (c .better-of-first .ensures ∙ ap (better-of p None) (soon .0)) late in
     let begins = c .best-ahead-begins .ensures asc ∙ ap₂ try ends (no-lead (minutes xs)) in
     c .best-ahead .ensures asc ∙ ap (λ b. try b last) begins ∙ sym (in-parts k n p h load request both (minutes xs) last) ∙ granted-is k n p h load request xs in
     record { which = which; right = λ up most wants lasts. right k n (g .L·Units·met .keeps n most) p h xs request wants lasts (c .best-ahead .result) (sym (which up)) }

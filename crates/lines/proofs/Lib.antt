@@ -1,0 +1,5 @@
+pub mod Entries
+pub mod Noted
+pub mod Stays
+pub mod Checked
+pub mod Promised

@@ -1,0 +1,3 @@
+pub mod Lines
+pub mod Ledger
+pub mod Promise
