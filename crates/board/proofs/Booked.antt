@@ -26,7 +26,7 @@ use Rattle.board.proofs.Reslotted.{slots_ground, slots_room, slots_now_laid, slo
 use Rattle.board.proofs.Told.{same_holding, Tells, kept_of, rows_laid}
 
 module _ {L : Type 0} (k : Kind L) (lawful : Lawful k) (was : Board L) (tells : Tells k was) (request : Request) (policy : Preference) (free : hold_check (holding was).book request ≡ None) (x : Booking L) (found_is : found_on k (holding was) request policy ≡ Some x) where
-  kept : Kept k was.slots.ground (holding was)
+  kept : Kept k was.slots.floor (holding was)
   kept = kept_of k was tells
 
   asked : Askable (holding was).book request
@@ -34,10 +34,10 @@ module _ {L : Type 0} (k : Kind L) (lawful : Lawful k) (was : Board L) (tells : 
 
   -- it ends before the latest horizon that there may be
   pub ends_early : x.end ≤ 1048576
-  ends_early = omega (arith, given_in_time k lawful was.slots.ground (holding was) kept request policy free x found_is, kept.horizon_fits)
+  ends_early = omega (arith, given_in_time k lawful was.slots.floor (holding was) kept request policy free x found_is, kept.horizon_fits)
 
   span : x.start < x.end
-  span = omega (arith, (best k lawful was.slots.ground (holding was) kept request policy free x found_is).lasts, asked.some_minutes)
+  span = omega (arith, (best k lawful was.slots.floor (holding was) kept request policy free x found_is).lasts, asked.some_minutes)
 
   abbrev row : Row L
   row = row_of was.next x Held
@@ -46,7 +46,7 @@ module _ {L : Type 0} (k : Kind L) (lawful : Lawful k) (was : Board L) (tells : 
   live = (holding was).book.rows
 
   abbrev empty : Row L
-  empty = blank_row was.slots.ground
+  empty = blank_row was.slots.floor
 
   long : length live ≡ was.rows.count
   long = let a = was.rows_used in let b = was.rows_fit in simp length-take (omega arith)
@@ -66,23 +66,23 @@ module _ {L : Type 0} (k : Kind L) (lawful : Lawful k) (was : Board L) (tells : 
 
     module _ (same : L → L → Bool) (told : (a b : L) → Decides (same a b) (a ≡ b)) (r : Bool) (slots : SlotList L)
         (answer : Tidy was.slots → r ≡ changeable x.start x.end was.slots.room (records was.slots))
-        (list : Tidy was.slots → Rewritten was.slots (cond r (edited same (k.put was.capacity x.claim) x.start x.end was.slots.ground (records was.slots)) (records was.slots)) slots) where
+        (list : Tidy was.slots → Rewritten was.slots (cond r (edited same (k.put was.capacity x.claim) x.start x.end was.slots.floor (records was.slots)) (records was.slots)) slots) where
       enough : length (holding was).slots + (lacks x.start (holding was).slots + lacks x.end (holding was).slots) ≤ was.slots.room
-      enough = omega (arith, room_to_enter k lawful was.slots.ground (holding was) kept x.start x.end asked.a_row_left, was.slots_room)
+      enough = omega (arith, room_to_enter k lawful was.slots.floor (holding was) kept x.start x.end asked.a_row_left, was.slots_room)
 
       pub entered_now : Outcome k was is slots (was.next + 1) (with_booking k (holding was) x)
       entered_now =
           let f = k.put was.capacity x.claim in
-          let ground = slots_ground k lawful same told was tells f x.start x.end span enough r slots answer list in
+          let floor = slots_ground k lawful same told was tells f x.start x.end span enough r slots answer list in
           let after = same_holding was.capacity was.horizon (was.next + 1) (suc was.next) is.room was.rows.room (take is.count is.rows.now) (live ++ (row ∷ [])) (take slots.used slots.slots.now) _ room_is (add-one was.next)
           (now_used empty empty refl was.rows.room was.rows.rows.now (live ++ (row ∷ [])) is.rows.now is.count fits was.rows_fit memory many)
           (slots_now k lawful same told was tells f x.start x.end span enough r slots answer list) in
           record {
-            rows_laid = subst (λ (n : ℕ). Laid (blank_row slots.ground) is.count n is.rows.now) (sym room_is) (now_laid empty (blank_row slots.ground) (ap blank_row ground) was.rows.room was.rows.rows.now (live ++ (row ∷ [])) is.rows.now is.count fits was.rows_fit memory many);
+            rows_laid = subst (λ (n : ℕ). Laid (blank_row slots.floor) is.count n is.rows.now) (sym room_is) (now_laid empty (blank_row slots.floor) (ap blank_row floor) was.rows.room was.rows.rows.now (live ++ (row ∷ [])) is.rows.now is.count fits was.rows_fit memory many);
             slots_laid = slots_now_laid k lawful same told was tells f x.start x.end span enough r slots answer list;
             rooms = slots_room k lawful same told was tells f x.start x.end span enough r slots answer list ∙ was.slots_room ∙ ap (λ (m : ℕ). 2 * m) (sym room_is);
             holding_is = after;
-            kept = subst (Kept k slots.ground) (sym after) (subst (λ v. Kept k v (with_booking k (holding was) x)) (sym ground) (given_kept k lawful was.slots.ground (holding was) kept request policy free x found_is));
+            kept = subst (Kept k slots.floor) (sym after) (subst (λ v. Kept k v (with_booking k (holding was) x)) (sym floor) (given_kept k lawful was.slots.floor (holding was) kept request policy free x found_is));
             rows_behind = ap (λ (n : ℕ). drop n is.rows.now) room_is ∙ now_behind empty empty refl was.rows.room was.rows.rows.now (live ++ (row ∷ [])) is.rows.now is.count fits was.rows_fit memory many;
             slots_behind = slots_behind k lawful same told was tells f x.start x.end span enough r slots answer list;
           }

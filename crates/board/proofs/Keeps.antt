@@ -81,10 +81,10 @@ module _ {L : Type 0} where
       go true rest q = inr (inl (ap (λ v. v.booking.end) (sym (some_is x r q))))
       go false rest q = inr (inr (rest q))
 
-module _ {L : Type 0} (k : Kind L) (lawful : Lawful k) (ground : L) where
+module _ {L : Type 0} (k : Kind L) (lawful : Lawful k) (floor : L) where
   -- MAKING
 
-  pub empty_kept : (c h room : ℕ) → ground ≡ k.nothing → c ≤ k.most → h ≤ 1048576 → (1 ≤ c → 1 ≤ h) → room ≤ 256 → Kept k ground (opened c h room)
+  pub empty_kept : (c h room : ℕ) → floor ≡ k.nothing → c ≤ k.most → h ≤ 1048576 → (1 ≤ c → 1 ≤ h) → room ≤ 256 → Kept k floor (opened c h room)
   empty_kept c h room is units minutes some rows = record {
     ground_is = is;
     capacity_fits = units;
@@ -99,16 +99,16 @@ module _ {L : Type 0} (k : Kind L) (lawful : Lawful k) (ground : L) where
     agree = slots_only k c (lawful c units) h [] [] tt tt (λ m. refl);
   }
 
-  pub made_kept : (c h rows records : ℕ) → ground ≡ k.nothing → Kept k ground (made k c h rows records)
+  pub made_kept : (c h rows records : ℕ) → floor ≡ k.nothing → Kept k floor (made k c h rows records)
   made_kept c h rows records is = go (set_up_check k c h rows records) refl
     where
-      go : (o : Option Refusal) → set_up_check k c h rows records ≡ o → Kept k ground (elim o as (λ _. Holding L) [ None ↦ opened c h rows | Some _ ↦ opened 0 0 0 ])
+      go : (o : Option Refusal) → set_up_check k c h rows records ≡ o → Kept k floor (elim o as (λ _. Holding L) [ None ↦ opened c h rows | Some _ ↦ opened 0 0 0 ])
       go None e = let a = allowed k c h rows records e in empty_kept c h rows is a.units_fit a.minutes_fit (λ _. a.some_minutes) a.rows_fit
       go (Some _) e = empty_kept 0 0 0 is (omega arith) (omega arith) (λ p. absurd (omega arith)) (omega arith)
 
   -- WHAT A KEPT BOARD'S SLOT LIST SAYS
 
-  module _ (board : Holding L) (kept : Kept k ground board) where
+  module _ (board : Holding L) (kept : Kept k floor board) where
     abbrev c : ℕ
     c = board.book.capacity
 
@@ -156,7 +156,7 @@ module _ {L : Type 0} (k : Kind L) (lawful : Lawful k) (ground : L) where
       pub given_in_time : x.end ≤ h
       given_in_time = omega (arith, best.lasts, best.in_time, asked.by_the_horizon)
 
-      pub given_kept : Kept k ground (with_booking k board x)
+      pub given_kept : Kept k floor (with_booking k board x)
       given_kept =
           let r : Row L = row_of board.book.next x Held in
           let more = bookings_more board.book.rows r in
@@ -186,7 +186,7 @@ module _ {L : Type 0} (k : Kind L) (lawful : Lawful k) (ground : L) where
     -- MOVES
 
     module _ (n : ℕ) (r : Row L) (e : numbered n board.book.rows ≡ Some r) where
-      pub state_kept : (s : State) → (s ≡ Blank → ⊥) → Kept k ground (with_state board n r s)
+      pub state_kept : (s : State) → (s ≡ Blank → ⊥) → Kept k floor (with_state board n r s)
       state_kept s there =
           let v : Row L = row_of r.number r.booking s in
           let rows = replaced n (v ∷ []) board.book.rows in
@@ -206,7 +206,7 @@ module _ {L : Type 0} (k : Kind L) (lawful : Lawful k) (ground : L) where
             agree = kept.agree ∙ ap (slot_list k c h) (sym same);
           }
 
-      pub gone_kept : Kept k ground (without_row k board n r)
+      pub gone_kept : Kept k floor (without_row k board n r)
       gone_kept =
           let others = bookings (replaced n [] board.book.rows) in
           let out = taken_out n board.book.rows r e in

@@ -53,5 +53,5 @@ module _ {L : Type 0} (k : Kind L) (c h rows records : ℕ) (o : Option Refusal)
   pub rows_few : room ≤ 256
   rows_few = (by_check o refl).3
 
-  pub new_kept : Lawful k → (ground : L) → ground ≡ k.nothing → Kept k ground (opened c' h' room)
-  new_kept lawful ground is = subst (Kept k ground) made_is (made_kept k lawful ground c h rows records is)
+  pub new_kept : Lawful k → (floor : L) → floor ≡ k.nothing → Kept k floor (opened c' h' room)
+  new_kept lawful floor is = subst (Kept k floor) made_is (made_kept k lawful floor c h rows records is)

@@ -22,18 +22,18 @@ module _ {L : Type 0} (k : Kind L) (lawful : Lawful k) (same : L → L → Bool)
     (enough : length (holding was).slots + (lacks from (holding was).slots + lacks until (holding was).slots) ≤ was.slots.room)
     (r : Bool) (is : SlotList L)
     (answer : Tidy was.slots → r ≡ changeable from until was.slots.room (records was.slots))
-    (list : Tidy was.slots → Rewritten was.slots (cond r (edited same f from until was.slots.ground (records was.slots)) (records was.slots)) is) where
-  kept : Kept k was.slots.ground (holding was)
+    (list : Tidy was.slots → Rewritten was.slots (cond r (edited same f from until was.slots.floor (records was.slots)) (records was.slots)) is) where
+  kept : Kept k was.slots.floor (holding was)
   kept = kept_of k was tells
 
-  canonical : Canonical 0 was.slots.ground (records was.slots)
-  canonical = subst (λ v. Canonical 0 v (holding was).slots) (sym kept.ground_is) (right k lawful was.slots.ground (holding was) kept).0
+  canonical : Canonical 0 was.slots.floor (records was.slots)
+  canonical = subst (λ v. Canonical 0 v (holding was).slots) (sym kept.ground_is) (right k lawful was.slots.floor (holding was) kept).0
 
   tidy : Tidy was.slots
   tidy = record { laid_out = slots_laid was; canonical = canonical }
 
   abbrev new : List (Slot L)
-  new = edited same f from until was.slots.ground (records was.slots)
+  new = edited same f from until was.slots.floor (records was.slots)
 
   changed : r ≡ true
   changed = answer tidy ∙ and_from (ltb from until) (leb (length (holding was).slots + (lacks from (holding was).slots + lacks until (holding was).slots)) was.slots.room) (lt-ltb from until span) (le-leb _ _ enough)
@@ -42,22 +42,22 @@ module _ {L : Type 0} (k : Kind L) (lawful : Lawful k) (same : L → L → Bool)
   rewritten = subst (λ b. Rewritten was.slots (cond b new (records was.slots)) is) changed (list tidy)
 
   fits : length new ≤ was.slots.room
-  fits = omega (arith, edited_short same told f from until was.slots.ground (records was.slots) span (canonical_ascending 0 was.slots.ground (records was.slots) canonical), enough)
+  fits = omega (arith, edited_short same told f from until was.slots.floor (records was.slots) span (canonical_ascending 0 was.slots.floor (records was.slots) canonical), enough)
 
-  pub slots_ground : is.ground ≡ was.slots.ground
+  pub slots_ground : is.floor ≡ was.slots.floor
   slots_ground = rewritten.ground_is
 
   pub slots_room : is.room ≡ was.slots.room
   slots_room = rewritten.room_is
 
-  pub slots_now_laid : Laid (slot_of 0 is.ground) is.used is.room is.slots.now
-  slots_now_laid = subst (λ (n : ℕ). Laid (slot_of 0 is.ground) is.used n is.slots.now) (sym slots_room) (now_laid (slot_of 0 was.slots.ground) (slot_of 0 is.ground) (ap (slot_of 0) slots_ground) was.slots.room was.slots.slots.now new is.slots.now is.used fits was.slots_fit rewritten.memory_is rewritten.used_is)
+  pub slots_now_laid : Laid (slot_of 0 is.floor) is.used is.room is.slots.now
+  slots_now_laid = subst (λ (n : ℕ). Laid (slot_of 0 is.floor) is.used n is.slots.now) (sym slots_room) (now_laid (slot_of 0 was.slots.floor) (slot_of 0 is.floor) (ap (slot_of 0) slots_ground) was.slots.room was.slots.slots.now new is.slots.now is.used fits was.slots_fit rewritten.memory_is rewritten.used_is)
 
   pub slots_now : take is.used is.slots.now ≡ edited k.same f from until k.nothing (holding was).slots
   slots_now =
-      now_used (slot_of 0 was.slots.ground) (slot_of 0 is.ground) (ap (slot_of 0) slots_ground) was.slots.room was.slots.slots.now new is.slots.now is.used fits was.slots_fit rewritten.memory_is rewritten.used_is
-      ∙ edited_by_any same told f from until was.slots.ground (records was.slots) k.same (same_told k was.capacity (laws k lawful was.slots.ground (holding was) kept))
+      now_used (slot_of 0 was.slots.floor) (slot_of 0 is.floor) (ap (slot_of 0) slots_ground) was.slots.room was.slots.slots.now new is.slots.now is.used fits was.slots_fit rewritten.memory_is rewritten.used_is
+      ∙ edited_by_any same told f from until was.slots.floor (records was.slots) k.same (same_told k was.capacity (laws k lawful was.slots.floor (holding was) kept))
       ∙ ap (λ v. edited k.same f from until v (holding was).slots) kept.ground_is
 
   pub slots_behind : drop is.room is.slots.now ≡ drop was.slots.room was.slots.slots.now
-  slots_behind = ap (λ (n : ℕ). drop n is.slots.now) slots_room ∙ now_behind (slot_of 0 was.slots.ground) (slot_of 0 is.ground) (ap (slot_of 0) slots_ground) was.slots.room was.slots.slots.now new is.slots.now is.used fits was.slots_fit rewritten.memory_is rewritten.used_is
+  slots_behind = ap (λ (n : ℕ). drop n is.slots.now) slots_room ∙ now_behind (slot_of 0 was.slots.floor) (slot_of 0 is.floor) (ap (slot_of 0) slots_ground) was.slots.room was.slots.slots.now new is.slots.now is.used fits was.slots_fit rewritten.memory_is rewritten.used_is

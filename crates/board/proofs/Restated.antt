@@ -37,9 +37,9 @@ module _ {L : Type 0} (k : Kind L) (was : Board L) (n place : ℕ) (placed : Pla
   there : place < was.rows.count
   there = omega (arith, placed.0, long)
 
-  memory : is.rows.now ≡ laid (blank_row was.slots.ground) was.rows.room new was.rows.rows.now
-  memory = wrote-is ∙ wrote (blank_row was.slots.ground) was.rows.count was.rows.room was.rows.rows.now (rows_laid was) place (row_of row.number row.booking s) there
-      ∙ ap (λ xs. laid (blank_row was.slots.ground) was.rows.room xs was.rows.rows.now) (sym (placed.2 (row_of row.number row.booking s ∷ [])))
+  memory : is.rows.now ≡ laid (blank_row was.slots.floor) was.rows.room new was.rows.rows.now
+  memory = wrote-is ∙ wrote (blank_row was.slots.floor) was.rows.count was.rows.room was.rows.rows.now (rows_laid was) place (row_of row.number row.booking s) there
+      ∙ ap (λ xs. laid (blank_row was.slots.floor) was.rows.room xs was.rows.rows.now) (sym (placed.2 (row_of row.number row.booking s ∷ [])))
 
   many : is.count ≡ length new
   many = count-is ∙ sym (ap length (placed.2 (row_of row.number row.booking s ∷ [])) ∙ simp (length-append, length-take, length-drop) (omega (arith, long, there)))
@@ -47,14 +47,14 @@ module _ {L : Type 0} (k : Kind L) (was : Board L) (n place : ℕ) (placed : Pla
   fits : length new ≤ was.rows.room
   fits = let a = was.rows_used in omega (arith, many, count-is)
 
-  state_laid : Laid (blank_row was.slots.ground) is.count is.room is.rows.now
-  state_laid = subst (λ (r : ℕ). Laid (blank_row was.slots.ground) is.count r is.rows.now) (sym room_is) (now_laid (blank_row was.slots.ground) (blank_row was.slots.ground) refl was.rows.room was.rows.rows.now new is.rows.now is.count fits was.rows_fit memory many)
+  state_laid : Laid (blank_row was.slots.floor) is.count is.room is.rows.now
+  state_laid = subst (λ (r : ℕ). Laid (blank_row was.slots.floor) is.count r is.rows.now) (sym room_is) (now_laid (blank_row was.slots.floor) (blank_row was.slots.floor) refl was.rows.room was.rows.rows.now new is.rows.now is.count fits was.rows_fit memory many)
 
   used : take is.count is.rows.now ≡ new
-  used = now_used (blank_row was.slots.ground) (blank_row was.slots.ground) refl was.rows.room was.rows.rows.now new is.rows.now is.count fits was.rows_fit memory many
+  used = now_used (blank_row was.slots.floor) (blank_row was.slots.floor) refl was.rows.room was.rows.rows.now new is.rows.now is.count fits was.rows_fit memory many
 
   state_behind : drop is.room is.rows.now ≡ drop was.rows.room was.rows.rows.now
-  state_behind = ap (λ (r : ℕ). drop r is.rows.now) room_is ∙ now_behind (blank_row was.slots.ground) (blank_row was.slots.ground) refl was.rows.room was.rows.rows.now new is.rows.now is.count fits was.rows_fit memory many
+  state_behind = ap (λ (r : ℕ). drop r is.rows.now) room_is ∙ now_behind (blank_row was.slots.floor) (blank_row was.slots.floor) refl was.rows.room was.rows.rows.now new is.rows.now is.count fits was.rows_fit memory many
 
   state_holding : (r : Row L) → numbered n live ≡ Some r → holds was.capacity was.horizon is.room was.next (take is.count is.rows.now) (holding was).slots ≡ with_state (holding was) n r s
   state_holding r e =
@@ -70,7 +70,7 @@ module _ {L : Type 0} (k : Kind L) (was : Board L) (n place : ℕ) (placed : Pla
         slots_laid = slots_laid was;
         rooms = was.slots_room ∙ ap (λ (r : ℕ). 2 * r) (sym room_is);
         holding_is = after;
-        kept = subst (Kept k was.slots.ground) (sym after) (state_kept k lawful was.slots.ground (holding was) (kept_of k was told) n row e s not_blank);
+        kept = subst (Kept k was.slots.floor) (sym after) (state_kept k lawful was.slots.floor (holding was) (kept_of k was told) n row e s not_blank);
         rows_behind = state_behind;
         slots_behind = refl;
       }

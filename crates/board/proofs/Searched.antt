@@ -37,16 +37,16 @@ module _ {L : Type 0} where
       let below = not_above (suc r.number) next rows h.1 in
       rw (ne_eqb r.number next (λ q. omega arith)) (numbered_last (suc r.number) next rows row e h.1)
 
-  pub granted_taken : (k : Kind L) (ground : L) (board : Holding L) → Kept k ground board → (x : Booking L) → Takes k (with_booking k board x) (Ok (grant_of board.book.next x))
-  granted_taken k ground board kept x =
+  pub granted_taken : (k : Kind L) (floor : L) (board : Holding L) → Kept k floor board → (x : Booking L) → Takes k (with_booking k board x) (Ok (grant_of board.book.next x))
+  granted_taken k floor board kept x =
       let there = numbered_last 1 board.book.next board.book.rows (row_of board.book.next x Held) refl kept.numbers in
       (ap (move_answer Confirm) there, ap (move_answer Release) there, refl)
 
-module _ {L : Type 0} (k : Kind L) (lawful : Lawful k) (ground : L) (board : Holding L) (kept : Kept k ground board) (request : Request) (policy : Preference) (xs : List (Slot L)) (all : xs ≡ board.slots) (result : Option (Found L))
+module _ {L : Type 0} (k : Kind L) (lawful : Lawful k) (floor : L) (board : Holding L) (kept : Kept k floor board) (request : Request) (policy : Preference) (xs : List (Slot L)) (all : xs ≡ board.slots) (result : Option (Found L))
     (finds : ascends 0 xs ≡ true → result ≡ found k board.book.capacity policy board.book.horizon (at k.nothing xs) request xs) where
   pub search_is : booking_of request result ≡ found_on k board request policy
   search_is =
-      let tidy = ascending_test 0 board.slots (canonical_ascending 0 k.nothing board.slots (right k lawful ground board kept).0) in
+      let tidy = ascending_test 0 board.slots (canonical_ascending 0 k.nothing board.slots (right k lawful floor board kept).0) in
       ap (booking_of request) (finds (ap (ascends 0) all ∙ tidy) ∙ ap (λ ys. found k board.book.capacity policy board.book.horizon (at k.nothing ys) request ys) all)
 
   module _ (free : hold_check board.book request ≡ None) where

@@ -40,28 +40,28 @@ not_made_blank Finish Confirmed t e b = let z : ◌≡◌ {A = ℕ} 0 1 = cc in 
 not_made_blank Finish UnderWay t e b = let z : ◌≡◌ {A = ℕ} 0 1 = cc in omega arith
 not_made_blank Finish Blank t e b = let z : ◌≡◌ {A = ℕ} 0 1 = cc in omega arith
 
-module _ {L : Type 0} (k : Kind L) (lawful : Lawful k) (ground : L) (board : Holding L) (kept : Kept k ground board) where
-  hold_kept : (request : Request) (policy : Preference) → Kept k ground (after k board (hold request policy))
+module _ {L : Type 0} (k : Kind L) (lawful : Lawful k) (floor : L) (board : Holding L) (kept : Kept k floor board) where
+  hold_kept : (request : Request) (policy : Preference) → Kept k floor (after k board (hold request policy))
   hold_kept request policy = go (hold_check board.book request) refl (found_on k board request policy) refl
     where
-      go : (o : Option Refusal) → hold_check board.book request ≡ o → (q : Option (Booking L)) → found_on k board request policy ≡ q → Kept k ground (hold_after k board o q)
+      go : (o : Option Refusal) → hold_check board.book request ≡ o → (q : Option (Booking L)) → found_on k board request policy ≡ q → Kept k floor (hold_after k board o q)
       go (Some why) e q f = kept
       go None e None f = kept
-      go None e (Some x) f = given_kept k lawful ground board kept request policy e x f
+      go None e (Some x) f = given_kept k lawful floor board kept request policy e x f
 
-  move_kept : (event : Event) (n : ℕ) → Kept k ground (after k board (move event n))
+  move_kept : (event : Event) (n : ℕ) → Kept k floor (after k board (move event n))
   move_kept event n = go (numbered n board.book.rows) refl
     where
-      by_fate : (r : Row L) → numbered n board.book.rows ≡ Some r → (f : Fate) → fate event r.state ≡ f → Kept k ground (fate_after k board n r f)
-      by_fate r e (becomes s) f = state_kept k lawful ground board kept n r e s (not_made_blank event r.state s f)
-      by_fate r e leaves f = gone_kept k lawful ground board kept n r e
+      by_fate : (r : Row L) → numbered n board.book.rows ≡ Some r → (f : Fate) → fate event r.state ≡ f → Kept k floor (fate_after k board n r f)
+      by_fate r e (becomes s) f = state_kept k lawful floor board kept n r e s (not_made_blank event r.state s f)
+      by_fate r e leaves f = gone_kept k lawful floor board kept n r e
       by_fate r e barred f = kept
 
-      go : (o : Option (Row L)) → numbered n board.book.rows ≡ o → Kept k ground (move_after k board event n o)
+      go : (o : Option (Row L)) → numbered n board.book.rows ≡ o → Kept k floor (move_after k board event n o)
       go None e = kept
       go (Some r) e = by_fate r e (fate event r.state) refl
 
-  pub after_kept : (call : Call L) → Kept k ground (after k board call)
+  pub after_kept : (call : Call L) → Kept k floor (after k board call)
   after_kept (hold request policy) = hold_kept request policy
   after_kept (move event n) = move_kept event n
 

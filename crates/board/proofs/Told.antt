@@ -36,15 +36,15 @@ module _ {L : Type 0} where
 
     -- what the witness of this board says
     abbrev pub Tells : Board L → Type 0
-    Tells is = Keeping k is.witness.capacity is.witness.horizon is.witness.next is.witness.room is.witness.ground is.witness.rows is.witness.slots
+    Tells is = Keeping k is.witness.capacity is.witness.horizon is.witness.next is.witness.room is.witness.floor is.witness.rows is.witness.slots
 
-    pub kept_of : (is : Board L) → Tells is → Kept k is.slots.ground (holding is)
-    kept_of is told = moved _ _ _ _ _ _ _ is.slots.ground (holding is) told is.capacity_same is.horizon_same is.next_same is.room_same is.ground_same is.rows_same is.slots_same
+    pub kept_of : (is : Board L) → Tells is → Kept k is.slots.floor (holding is)
+    kept_of is told = moved _ _ _ _ _ _ _ is.slots.floor (holding is) told is.capacity_same is.horizon_same is.next_same is.room_same is.ground_same is.rows_same is.slots_same
 
-  pub rows_laid : (is : Board L) → Laid (blank_row is.slots.ground) is.rows.count is.rows.room is.rows.rows.now
+  pub rows_laid : (is : Board L) → Laid (blank_row is.slots.floor) is.rows.count is.rows.room is.rows.rows.now
   rows_laid is = record { used_fits = is.rows_used; room_fits = is.rows_fit; blank_behind = is.rows_blank }
 
-  pub slots_laid : (is : Board L) → Laid (slot_of 0 is.slots.ground) is.slots.used is.slots.room is.slots.slots.now
+  pub slots_laid : (is : Board L) → Laid (slot_of 0 is.slots.floor) is.slots.used is.slots.room is.slots.slots.now
   slots_laid is = record { used_fits = is.slots_used; room_fits = is.slots_fit; blank_behind = is.slots_blank }
 
   -- the memory behind, by its parts

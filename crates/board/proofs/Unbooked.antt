@@ -23,7 +23,7 @@ use Rattle.board.proofs.Reslotted.{slots_ground, slots_room, slots_now_laid, slo
 use Rattle.board.proofs.Restated.{read_is}
 use Rattle.board.proofs.Told.{same_holding, Tells, kept_of, rows_laid}
 
-module _ {L : Type 0} (k : Kind L) (was : Board L) (n place : ℕ) (placed : Placed n (holding was).book.rows (Some place)) (blank : Row L) (blank-is : blank ≡ blank_row was.slots.ground) (ground : L) (ground_is : ground ≡ was.slots.ground)
+module _ {L : Type 0} (k : Kind L) (was : Board L) (n place : ℕ) (placed : Placed n (holding was).book.rows (Some place)) (blank : Row L) (blank-is : blank ≡ blank_row was.slots.floor) (floor : L) (ground_is : floor ≡ was.slots.floor)
     (is : RowList L) (closed_is : is.rows.now ≡ closed place was.rows.count blank was.rows.rows.now) (count-is : is.count ≡ was.rows.count - 1) (room_is : is.room ≡ was.rows.room) where
   abbrev live : List (Row L)
   live = (holding was).book.rows
@@ -32,7 +32,7 @@ module _ {L : Type 0} (k : Kind L) (was : Board L) (n place : ℕ) (placed : Pla
   new = replaced n [] live
 
   abbrev empty : Row L
-  empty = blank_row was.slots.ground
+  empty = blank_row was.slots.floor
 
   long : length live ≡ was.rows.count
   long = let a = was.rows_used in let b = was.rows_fit in simp length-take (omega arith)
@@ -51,8 +51,8 @@ module _ {L : Type 0} (k : Kind L) (was : Board L) (n place : ℕ) (placed : Pla
   fits : length new ≤ was.rows.room
   fits = let a = was.rows_used in omega (arith, many, count-is)
 
-  gone_laid : Laid (blank_row ground) is.count is.room is.rows.now
-  gone_laid = subst (λ (r : ℕ). Laid (blank_row ground) is.count r is.rows.now) (sym room_is) (now_laid empty (blank_row ground) (ap blank_row ground_is) was.rows.room was.rows.rows.now new is.rows.now is.count fits was.rows_fit memory many)
+  gone_laid : Laid (blank_row floor) is.count is.room is.rows.now
+  gone_laid = subst (λ (r : ℕ). Laid (blank_row floor) is.count r is.rows.now) (sym room_is) (now_laid empty (blank_row floor) (ap blank_row ground_is) was.rows.room was.rows.rows.now new is.rows.now is.count fits was.rows_fit memory many)
 
   gone_used : take is.count is.rows.now ≡ new
   gone_used = now_used empty empty refl was.rows.room was.rows.rows.now new is.rows.now is.count fits was.rows_fit memory many
@@ -61,9 +61,9 @@ module _ {L : Type 0} (k : Kind L) (was : Board L) (n place : ℕ) (placed : Pla
   gone_behind = ap (λ (r : ℕ). drop r is.rows.now) room_is ∙ now_behind empty empty refl was.rows.room was.rows.rows.now new is.rows.now is.count fits was.rows_fit memory many
 
   -- with the slots of its span changed too
-  module _ (lawful : Lawful k) (same : L → L → Bool) (told : (a b : L) → Decides (same a b) (a ≡ b)) (tells : Tells k was) (row : Row L) (read : row ≡ get_or live place row) (r : Bool) (slots : SlotList L) (same-ground : slots.ground ≡ ground)
+  module _ (lawful : Lawful k) (same : L → L → Bool) (told : (a b : L) → Decides (same a b) (a ≡ b)) (tells : Tells k was) (row : Row L) (read : row ≡ get_or live place row) (r : Bool) (slots : SlotList L) (same-floor : slots.floor ≡ floor)
       (answer : Tidy was.slots → r ≡ changeable row.booking.start row.booking.end was.slots.room (records was.slots))
-      (list : Tidy was.slots → Rewritten was.slots (cond r (edited same (k.lift row.booking.claim) row.booking.start row.booking.end was.slots.ground (records was.slots)) (records was.slots)) slots) where
+      (list : Tidy was.slots → Rewritten was.slots (cond r (edited same (k.lift row.booking.claim) row.booking.start row.booking.end was.slots.floor (records was.slots)) (records was.slots)) slots) where
     numbered_is : numbered n live ≡ Some row
     numbered_is = read_is n place live row placed read
 
@@ -71,18 +71,18 @@ module _ {L : Type 0} (k : Kind L) (was : Board L) (n place : ℕ) (placed : Pla
     span = (proper_one k was.horizon n live row (kept_of k was tells).proper numbered_is).has_minutes
 
     enough : length (holding was).slots + (lacks row.booking.start (holding was).slots + lacks row.booking.end (holding was).slots) ≤ was.slots.room
-    enough = omega (arith, room_to_remove k lawful was.slots.ground (holding was) (kept_of k was tells) n row numbered_is, was.slots_room)
+    enough = omega (arith, room_to_remove k lawful was.slots.floor (holding was) (kept_of k was tells) n row numbered_is, was.slots_room)
 
     pub unbooked : Outcome k was is slots was.next (without_row k (holding was) n row)
     unbooked =
         let f = k.lift row.booking.claim in
         let after = same_holding was.capacity was.horizon was.next was.next is.room was.rows.room (take is.count is.rows.now) new (take slots.used slots.slots.now) _ room_is refl gone_used (slots_now k lawful same told was tells f row.booking.start row.booking.end span enough r slots answer list) in
         record {
-          rows_laid = subst (λ v. Laid (blank_row v) is.count is.room is.rows.now) (sym same-ground) gone_laid;
+          rows_laid = subst (λ v. Laid (blank_row v) is.count is.room is.rows.now) (sym same-floor) gone_laid;
           slots_laid = slots_now_laid k lawful same told was tells f row.booking.start row.booking.end span enough r slots answer list;
           rooms = slots_room k lawful same told was tells f row.booking.start row.booking.end span enough r slots answer list ∙ was.slots_room ∙ ap (λ (m : ℕ). 2 * m) (sym room_is);
           holding_is = after;
-          kept = subst (Kept k slots.ground) (sym after) (subst (λ v. Kept k v (without_row k (holding was) n row)) (sym (slots_ground k lawful same told was tells f row.booking.start row.booking.end span enough r slots answer list)) (gone_kept k lawful was.slots.ground (holding was) (kept_of k was tells) n row numbered_is));
+          kept = subst (Kept k slots.floor) (sym after) (subst (λ v. Kept k v (without_row k (holding was) n row)) (sym (slots_ground k lawful same told was tells f row.booking.start row.booking.end span enough r slots answer list)) (gone_kept k lawful was.slots.floor (holding was) (kept_of k was tells) n row numbered_is));
           rows_behind = gone_behind;
           slots_behind = slots_behind k lawful same told was tells f row.booking.start row.booking.end span enough r slots answer list;
         }

@@ -20,8 +20,8 @@ AllProper k horizon [] = Unit {0}
 AllProper k horizon (r ∷ rows) = Proper k horizon r × AllProper k horizon rows
 
 -- the numbers lie in their ranges; the rows are proper, sound, no more than there is room for, and in the order of their numbers; and the slot list is theirs
-pub record Keeping {L : Type 0} (k : Kind L) (capacity horizon next room : ℕ) (ground : L) (rows : List (Row L)) (slots : List (Slot L)) : Type 0 where
-  pub ground_is : ground ≡ k.nothing
+pub record Keeping {L : Type 0} (k : Kind L) (capacity horizon next room : ℕ) (floor : L) (rows : List (Row L)) (slots : List (Slot L)) : Type 0 where
+  pub ground_is : floor ≡ k.nothing
   pub capacity_fits : capacity ≤ k.most
   pub horizon_fits : horizon ≤ 1048576
   pub horizon_open : 1 ≤ capacity → 1 ≤ horizon
@@ -35,4 +35,4 @@ pub record Keeping {L : Type 0} (k : Kind L) (capacity horizon next room : ℕ) 
 
 -- the same of what a board holds
 abbrev pub Kept : {L : Type 0} → Kind L → L → Holding L → Type 0
-Kept k ground board = Keeping k board.book.capacity board.book.horizon board.book.next board.book.room ground board.book.rows board.slots
+Kept k floor board = Keeping k board.book.capacity board.book.horizon board.book.next board.book.room floor board.book.rows board.slots

@@ -54,9 +54,9 @@ impl<'m, L: Units> Board<'m, L> {
 
     // Enters the booking that was found under the next number, and puts its claim on the slots of its span.
     fn enter(&mut self, request: Request, found: Found<L>) -> Grant<L>
-        requires { (hold_check (holding self.old).book request ≡ None) × (((policy : Preference) × (found_on kind (holding self.old) request policy ≡ Some (booked request found.rectangle.start found.claim)))) }
+        requires { (hold_check (holding self.old).book request ≡ None) × (((policy : Preference) × (found_on L.kind (holding self.old) request policy ≡ Some (booked request found.rectangle.start found.claim)))) }
         ensures answer { result ≡ grant_of self.old.next (booked request found.rectangle.start found.claim) }
-        ensures board { holding self.new ≡ with_booking kind (holding self.old) (booked request found.rectangle.start found.claim) }
+        ensures board { holding self.new ≡ with_booking L.kind (holding self.old) (booked request found.rectangle.start found.claim) }
         ensures rest { behind self.new ≡ behind self.old }
         ensures lent { (self.new.rows.rows.ghost_name ≡ self.old.rows.rows.ghost_name) × (self.new.slots.slots.ghost_name ≡ self.old.slots.slots.ghost_name) }
     {
@@ -97,9 +97,9 @@ impl<'m, L: Units> Board<'m, L> {
 
     // Holds the booking that the policy ranks best, or says why not. The board takes the token of what it grants.
     pub fn hold<P: Policy>(&mut self, request: Request, policy: &P) -> Result<Grant<L>, Refusal>
-        ensures answer { result ≡ hold_result (answer kind (holding self.old) (hold request (preference policy.now))) }
-        ensures board { holding self.new ≡ after kind (holding self.old) (hold request (preference policy.now)) }
-        ensures takes { Takes kind (holding self.new) result }
+        ensures answer { result ≡ hold_result (answer L.kind (holding self.old) (hold request (P.preference policy.now))) }
+        ensures board { holding self.new ≡ after L.kind (holding self.old) (hold request (P.preference policy.now)) }
+        ensures takes { Takes L.kind (holding self.new) result }
         ensures rest { behind self.new ≡ behind self.old }
         ensures lent { (self.new.rows.rows.ghost_name ≡ self.old.rows.rows.ghost_name) × (self.new.slots.slots.ghost_name ≡ self.old.slots.slots.ghost_name) }
     {

@@ -1,4 +1,6 @@
 //! The booking board: rows and slot list in lent memory, and the calls on them.
+#![tactic(auto)]
+
 pub mod board;
 pub mod changes;
 pub mod grant;

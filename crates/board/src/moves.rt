@@ -81,7 +81,7 @@ impl<'m, L: Units> Board<'m, L> {
     // Takes the booking at `place` out, and lifts its claim from the slots of its span.
     fn remove(&mut self, number: u32, place: usize)
         requires { Placed number (holding self.old).book.rows (Some place) }
-        ensures board { (r : Row L) → numbered number (holding self.old).book.rows ≡ Some r → holding self.new ≡ without_row kind (holding self.old) number r }
+        ensures board { (r : Row L) → numbered number (holding self.old).book.rows ≡ Some r → holding self.new ≡ without_row L.kind (holding self.old) number r }
         ensures rest { behind self.new ≡ behind self.old }
         ensures lent { (self.new.rows.rows.ghost_name ≡ self.old.rows.rows.ghost_name) × (self.new.slots.slots.ghost_name ≡ self.old.slots.slots.ghost_name) }
     {
@@ -90,7 +90,7 @@ impl<'m, L: Units> Board<'m, L> {
         let lift = Lift {
             claim: row.booking.claim,
         };
-        let blank = blank_row(self.slots.ground);
+        let blank = blank_row(self.slots.floor);
         self.rows.take_out(place, blank);
         let _ = self.slots.change(row.booking.start, row.booking.end, &lift);
         self.witness = witness_of(
@@ -106,7 +106,7 @@ impl<'m, L: Units> Board<'m, L> {
     fn act(&mut self, number: u32, place: usize, event: Event) -> bool
         requires { Placed number (holding self.old).book.rows (Some place) }
         ensures answer { (r : Row L) → numbered number (holding self.old).book.rows ≡ Some r → result ≡ done_by (fate event r.state) }
-        ensures board { (r : Row L) → numbered number (holding self.old).book.rows ≡ Some r → holding self.new ≡ fate_after kind (holding self.old) number r (fate event r.state) }
+        ensures board { (r : Row L) → numbered number (holding self.old).book.rows ≡ Some r → holding self.new ≡ fate_after L.kind (holding self.old) number r (fate event r.state) }
         ensures rest { behind self.new ≡ behind self.old }
         ensures lent { (self.new.rows.rows.ghost_name ≡ self.old.rows.rows.ghost_name) × (self.new.slots.slots.ghost_name ≡ self.old.slots.slots.ghost_name) }
     {
@@ -131,8 +131,8 @@ impl<'m, L: Units> Board<'m, L> {
 
     // The event for the booking of that number.
     fn moved(&mut self, number: u32, event: Event) -> Result<(), Refusal>
-        ensures answer { result ≡ done_result (answer kind (holding self.old) (move event number)) }
-        ensures board { holding self.new ≡ after kind (holding self.old) (move event number) }
+        ensures answer { result ≡ done_result (answer L.kind (holding self.old) (move event number)) }
+        ensures board { holding self.new ≡ after L.kind (holding self.old) (move event number) }
         ensures rest { behind self.new ≡ behind self.old }
         ensures lent { (self.new.rows.rows.ghost_name ≡ self.old.rows.rows.ghost_name) × (self.new.slots.slots.ghost_name ≡ self.old.slots.slots.ghost_name) }
     {
@@ -150,8 +150,8 @@ impl<'m, L: Units> Board<'m, L> {
 
     // The held booking of the token is confirmed; a token whose booking is not held here is handed back.
     pub fn confirm(&mut self, token: HoldToken) -> Result<(), HoldToken>
-        ensures answer { result ≡ token_result token (answer kind (holding self.old) (move Event.Confirm token.number)) }
-        ensures board { holding self.new ≡ after kind (holding self.old) (move Event.Confirm token.number) }
+        ensures answer { result ≡ token_result token (answer L.kind (holding self.old) (move Event.Confirm token.number)) }
+        ensures board { holding self.new ≡ after L.kind (holding self.old) (move Event.Confirm token.number) }
         ensures rest { behind self.new ≡ behind self.old }
         ensures lent { (self.new.rows.rows.ghost_name ≡ self.old.rows.rows.ghost_name) × (self.new.slots.slots.ghost_name ≡ self.old.slots.slots.ghost_name) }
     {
@@ -161,8 +161,8 @@ impl<'m, L: Units> Board<'m, L> {
 
     // The held booking of the token is removed; a token whose booking is not held here is handed back.
     pub fn release(&mut self, token: HoldToken) -> Result<(), HoldToken>
-        ensures answer { result ≡ token_result token (answer kind (holding self.old) (move Event.Release token.number)) }
-        ensures board { holding self.new ≡ after kind (holding self.old) (move Event.Release token.number) }
+        ensures answer { result ≡ token_result token (answer L.kind (holding self.old) (move Event.Release token.number)) }
+        ensures board { holding self.new ≡ after L.kind (holding self.old) (move Event.Release token.number) }
         ensures rest { behind self.new ≡ behind self.old }
         ensures lent { (self.new.rows.rows.ghost_name ≡ self.old.rows.rows.ghost_name) × (self.new.slots.slots.ghost_name ≡ self.old.slots.slots.ghost_name) }
     {
@@ -172,8 +172,8 @@ impl<'m, L: Units> Board<'m, L> {
 
     // The confirmed booking of that number is removed.
     pub fn cancel(&mut self, number: u32) -> Result<(), Refusal>
-        ensures answer { result ≡ done_result (answer kind (holding self.old) (move Event.Cancel number)) }
-        ensures board { holding self.new ≡ after kind (holding self.old) (move Event.Cancel number) }
+        ensures answer { result ≡ done_result (answer L.kind (holding self.old) (move Event.Cancel number)) }
+        ensures board { holding self.new ≡ after L.kind (holding self.old) (move Event.Cancel number) }
         ensures rest { behind self.new ≡ behind self.old }
         ensures lent { (self.new.rows.rows.ghost_name ≡ self.old.rows.rows.ghost_name) × (self.new.slots.slots.ghost_name ≡ self.old.slots.slots.ghost_name) }
     {
@@ -182,8 +182,8 @@ impl<'m, L: Units> Board<'m, L> {
 
     // The confirmed booking of that number is then under way.
     pub fn begin(&mut self, number: u32) -> Result<(), Refusal>
-        ensures answer { result ≡ done_result (answer kind (holding self.old) (move Event.Begin number)) }
-        ensures board { holding self.new ≡ after kind (holding self.old) (move Event.Begin number) }
+        ensures answer { result ≡ done_result (answer L.kind (holding self.old) (move Event.Begin number)) }
+        ensures board { holding self.new ≡ after L.kind (holding self.old) (move Event.Begin number) }
         ensures rest { behind self.new ≡ behind self.old }
         ensures lent { (self.new.rows.rows.ghost_name ≡ self.old.rows.rows.ghost_name) × (self.new.slots.slots.ghost_name ≡ self.old.slots.slots.ghost_name) }
     {
@@ -192,8 +192,8 @@ impl<'m, L: Units> Board<'m, L> {
 
     // The booking of that number, which is under way, is removed.
     pub fn finish(&mut self, number: u32) -> Result<(), Refusal>
-        ensures answer { result ≡ done_result (answer kind (holding self.old) (move Event.Finish number)) }
-        ensures board { holding self.new ≡ after kind (holding self.old) (move Event.Finish number) }
+        ensures answer { result ≡ done_result (answer L.kind (holding self.old) (move Event.Finish number)) }
+        ensures board { holding self.new ≡ after L.kind (holding self.old) (move Event.Finish number) }
         ensures rest { behind self.new ≡ behind self.old }
         ensures lent { (self.new.rows.rows.ghost_name ≡ self.old.rows.rows.ghost_name) × (self.new.slots.slots.ghost_name ≡ self.old.slots.slots.ghost_name) }
     {

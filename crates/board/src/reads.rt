@@ -15,7 +15,7 @@ use units::kind::Units;
 impl<'m, L: Units> Board<'m, L> {
     // What a board always keeps.
     pub fn keeps(&self)
-        ensures { Kept kind kind.nothing (holding self.now) }
+        ensures { Kept L.kind L.kind.nothing (holding self.now) }
     {
         self.witness.told();
     }
@@ -64,7 +64,7 @@ impl<'m, L: Units> Board<'m, L> {
 
     // The load at `minute`: what the standing bookings make.
     pub fn load_at(&self, minute: u32) -> L
-        ensures { result ≡ load_at kind self.now.capacity (bookings (holding self.now).book.rows) minute }
+        ensures { result ≡ load_at L.kind self.now.capacity (bookings (holding self.now).book.rows) minute }
     {
         self.witness.told();
         self.slots.at(minute)
@@ -72,8 +72,8 @@ impl<'m, L: Units> Board<'m, L> {
 
     // Hands the memory back: the rows and the slot list, blanks behind them, and what was not the board's as it was.
     pub fn close(self) -> (&'m mut [Row<L>], &'m mut [Slot<L>])
-        ensures rows { result.0.now ≡ laid (blank_row kind.nothing) self.entry.rows.room (holding self.entry).book.rows self.entry.rows.rows.now }
-        ensures slots { result.1.now ≡ laid (slot_of 0 kind.nothing) self.entry.slots.room (holding self.entry).slots self.entry.slots.slots.now }
+        ensures rows { result.0.now ≡ laid (blank_row L.kind.nothing) self.entry.rows.room (holding self.entry).book.rows self.entry.rows.rows.now }
+        ensures slots { result.1.now ≡ laid (slot_of 0 L.kind.nothing) self.entry.slots.room (holding self.entry).slots self.entry.slots.slots.now }
         ensures lent { (result.0.ghost_name ≡ self.entry.rows.rows.ghost_name) × (result.1.ghost_name ≡ self.entry.slots.slots.ghost_name) }
     {
         self.witness.told();

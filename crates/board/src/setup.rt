@@ -29,7 +29,7 @@ pub fn set_up_check<L: Units>(
     rows: usize,
     records: usize,
 ) -> Option<Refusal>
-    ensures { result ≡ set_up_check kind capacity horizon rows records }
+    ensures { result ≡ set_up_check L.kind capacity horizon rows records }
 {
     if capacity == 0 || L::most() < capacity {
         return Some(Refusal::Capacity);
@@ -79,15 +79,15 @@ pub(crate) fn witness_of<L: Units>(
     rows: &RowList<'_, L>,
     slots: &SlotList<'_, L>,
 ) -> Witness<L>
-    requires { (rows.now.count ≤ length rows.now.rows.now) × ((slots.now.used ≤ length slots.now.slots.now) × (Keeping L.Units.kind capacity horizon next rows.now.room slots.now.ground (take rows.now.count rows.now.rows.now) (take slots.now.used slots.now.slots.now))) }
-    ensures { (result.capacity ≡ capacity) × (result.horizon ≡ horizon) × (result.next ≡ next) × (result.room ≡ rows.now.room) × (result.ground ≡ slots.now.ground) × (result.rows ≡ take rows.now.count rows.now.rows.now) × (result.slots ≡ take slots.now.used slots.now.slots.now) }
+    requires { (rows.now.count ≤ length rows.now.rows.now) × ((slots.now.used ≤ length slots.now.slots.now) × (Keeping L.Units.kind capacity horizon next rows.now.room slots.now.floor (take rows.now.count rows.now.rows.now) (take slots.now.used slots.now.slots.now))) }
+    ensures { (result.capacity ≡ capacity) × (result.horizon ≡ horizon) × (result.next ≡ next) × (result.room ≡ rows.now.room) × (result.floor ≡ slots.now.floor) × (result.rows ≡ take rows.now.count rows.now.rows.now) × (result.slots ≡ take slots.now.used slots.now.slots.now) }
 {
     Witness::of(
         capacity,
         horizon,
         next,
         rows.room,
-        slots.ground,
+        slots.floor,
         &rows.rows[0..rows.count],
         &slots.slots[0..slots.used],
     )
@@ -101,18 +101,18 @@ impl<'m, L: Units> Board<'m, L> {
         rows: &'m mut [Row<L>],
         slots: &'m mut [Slot<L>],
     ) -> Board<'m, L>
-        ensures board { holding result ≡ made kind capacity horizon (length rows.old) (length slots.old) }
-        ensures rows { result.rows.rows.now ≡ laid (blank_row kind.nothing) result.rows.room [] rows.old }
-        ensures slots { result.slots.slots.now ≡ laid (slot_of 0 kind.nothing) result.slots.room [] slots.old }
+        ensures board { holding result ≡ made L.kind capacity horizon (length rows.old) (length slots.old) }
+        ensures rows { result.rows.rows.now ≡ laid (blank_row L.kind.nothing) result.rows.room [] rows.old }
+        ensures slots { result.slots.slots.now ≡ laid (slot_of 0 L.kind.nothing) result.slots.room [] slots.old }
         ensures lent { (result.rows.rows.ghost_name ≡ rows.entry.ghost_name) × (result.slots.slots.ghost_name ≡ slots.entry.ghost_name) }
     {
         let allowed = set_up_check::<L>(capacity, horizon, rows.len(), slots.len()).is_none();
         let capacity = minutes_if(allowed, capacity);
         let horizon = minutes_if(allowed, horizon);
         let room = rows_if(allowed, rows.len());
-        let ground = L::nothing();
-        let rows = RowList::new(rows, room, blank_row(ground));
-        let slots = SlotList::new(slots, 2 * room, ground);
+        let floor = L::nothing();
+        let rows = RowList::new(rows, room, blank_row(floor));
+        let slots = SlotList::new(slots, 2 * room, floor);
         let witness = witness_of(capacity, horizon, 1, &rows, &slots);
         Board {
             capacity,

@@ -18,15 +18,15 @@ pub struct Witness<L: Units> {
     ghost horizon: { ℕ },
     ghost next: { ℕ },
     ghost room: { ℕ },
-    ghost ground: { L },
+    ghost floor: { L },
     ghost rows: { List (Row L) },
     ghost slots: { List (Slot L) },
 }
 
 impl<L: Units> Model for Witness<L> {
-    ghost also_owns = { λ w. fex (Keeping L.Units.kind w.capacity w.horizon w.next w.room w.ground w.rows w.slots) (λ _. ftrue) };
+    ghost also_owns = { λ w. fex (Keeping L.Units.kind w.capacity w.horizon w.next w.room w.floor w.rows w.slots) (λ _. ftrue) };
 
-    ghost also_shares = { λ w _ κ. said (fex (Keeping L.Units.kind w.capacity w.horizon w.next w.room w.ground w.rows w.slots) (λ _. ftrue)) (λ _. tt) κ };
+    ghost also_shares = { λ w _ κ. said (fex (Keeping L.Units.kind w.capacity w.horizon w.next w.room w.floor w.rows w.slots) (λ _. ftrue)) (λ _. tt) κ };
 }
 
 impl<L: Units> Witness<L> {
@@ -36,12 +36,12 @@ impl<L: Units> Witness<L> {
         horizon: u32,
         next: u32,
         room: usize,
-        ground: L,
+        floor: L,
         rows: &[Row<L>],
         slots: &[Slot<L>],
     ) -> Witness<L>
-        requires { Keeping L.Units.kind capacity horizon next room ground rows.now slots.now }
-        ensures { (result.capacity ≡ capacity) × (result.horizon ≡ horizon) × (result.next ≡ next) × (result.room ≡ room) × (result.ground ≡ ground) × (result.rows ≡ rows.now) × (result.slots ≡ slots.now) }
+        requires { Keeping L.Units.kind capacity horizon next room floor rows.now slots.now }
+        ensures { (result.capacity ≡ capacity) × (result.horizon ≡ horizon) × (result.next ≡ next) × (result.room ≡ room) × (result.floor ≡ floor) × (result.rows ≡ rows.now) × (result.slots ≡ slots.now) }
     {
         Witness {
             of_rows: PhantomData,
@@ -51,7 +51,7 @@ impl<L: Units> Witness<L> {
 
     // Tells it.
     pub(crate) fn told(&self)
-        ensures { Keeping L.Units.kind self.now.capacity self.now.horizon self.now.next self.now.room self.now.ground self.now.rows self.now.slots }
+        ensures { Keeping L.Units.kind self.now.capacity self.now.horizon self.now.next self.now.room self.now.floor self.now.rows self.now.slots }
     {}
 }
 

@@ -17,7 +17,7 @@ impl<L: Copy> Booking<L> {
 
 // The load at `minute`: nothing, with the claims of the bookings that stand there put on in their order.
 pub fn load_at<L: Units>(rows: &[Row<L>], capacity: u32, minute: u32) -> L
-    ensures { result ≡ load_at kind capacity (bookings rows.now) minute }
+    ensures { result ≡ load_at L.kind capacity (bookings rows.now) minute }
 {
     let mut load = L::nothing();
     for row in rows {

@@ -1,4 +1,7 @@
 // Answers a call sheet from standard input on standard output.
+
+#![tactic(auto)]
+
 use dispatch::run::run;
 use std::io;
 use std::io::Read;

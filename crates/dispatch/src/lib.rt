@@ -1,3 +1,5 @@
 //! Runs a call sheet on a crew board.
+#![tactic(auto)]
+
 pub mod entry;
 pub mod run;

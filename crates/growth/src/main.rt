@@ -1,4 +1,7 @@
 // Times holds on a crew board: `growth ROWS TIMES` fills all but one of the rows and then holds and releases so often, by two policies. With no arguments it does nothing.
+
+#![tactic(auto)]
+
 use board::board::Board;
 use board::grant::Grant;
 use bookings::booking::Booking;

@@ -1,4 +1,6 @@
 //! The promise over whole lines of calls: each function's contract is a theorem.
+#![tactic(auto)]
+
 ghost use Rattle.lines.specs.Lines.{Line};
 ghost use Rattle.lines.specs.Promise.{Promise, LinesPromise};
 

@@ -49,7 +49,7 @@ fn found_at<L: Units>(
     last: Option<Hit<L>>,
 ) -> Option<Hit<L>>
     requires { hint ≤ length slots.now }
-    ensures { Ascending 0 slots.now → Ascending (suc start) (drop hint slots.now) → IsHit kind capacity horizon (at kind.nothing slots.now) request last → (rectangle_of result ≡ found_at kind capacity horizon (at kind.nothing slots.now) request start) × IsHit kind capacity horizon (at kind.nothing slots.now) request result }
+    ensures { Ascending 0 slots.now → Ascending (suc start) (drop hint slots.now) → IsHit L.kind capacity horizon (at L.kind.nothing slots.now) request last → (rectangle_of result ≡ found_at L.kind capacity horizon (at L.kind.nothing slots.now) request start) × IsHit L.kind capacity horizon (at L.kind.nothing slots.now) request result }
 {
     if !in_window(request, start) {
         return None;
@@ -81,7 +81,7 @@ fn found_at<L: Units>(
 
 // Is `a` preferred, or no less preferred and earlier?
 fn goes_before<P: Policy>(policy: &P, a: &Rectangle, b: &Rectangle) -> bool
-    ensures { result ≡ before (preference policy.now) a.now b.now }
+    ensures { result ≡ before (P.preference policy.now) a.now b.now }
 {
     policy.prefers(a, b) || (!policy.prefers(b, a) && a.start < b.start)
 }
@@ -92,7 +92,7 @@ fn better_of<L: Units, P: Policy>(
     best: Option<Rectangle>,
     next: Option<Hit<L>>,
 ) -> Option<Rectangle>
-    ensures { result ≡ better_of (preference policy.now) best (rectangle_of next) }
+    ensures { result ≡ better_of (P.preference policy.now) best (rectangle_of next) }
 {
     match (best, next) {
         (_, None) => best,
@@ -109,7 +109,7 @@ fn better_of<L: Units, P: Policy>(
 
 // Is the best so far sure to stay, whatever is found at `start`?
 fn settled<P: Policy>(policy: &P, best: Option<Rectangle>, start: u32) -> bool
-    ensures { result ≡ true → (q : Rectangle) → q.start ≡ start → better_of (preference policy.now) best (Some q) ≡ best }
+    ensures { result ≡ true → (q : Rectangle) → q.start ≡ start → better_of (P.preference policy.now) best (Some q) ≡ best }
 {
     match best {
         Some(r) => r.start <= start && policy.earlier_first(),
@@ -127,7 +127,7 @@ fn best_ahead<L: Units, P: Policy>(
     lead: u32,
     so_far: Option<Rectangle>,
 ) -> Option<Rectangle>
-    ensures { Ascending 0 slots.now → result ≡ trying kind capacity (preference policy.now) horizon (at kind.nothing slots.now) request so_far (map (λ m. m - lead) (minutes slots.now)) }
+    ensures { Ascending 0 slots.now → result ≡ trying L.kind capacity (P.preference policy.now) horizon (at L.kind.nothing slots.now) request so_far (map (λ m. m - lead) (minutes slots.now)) }
 {
     let mut best = so_far;
     let mut last = None;
@@ -150,8 +150,8 @@ pub fn find_start<L: Units, P: Policy>(
     request: Request,
     policy: &P,
 ) -> Option<Rectangle>
-    ensures which { ascends 0 slots.now ≡ true → result ≡ granted kind capacity (preference policy.now) horizon (at kind.nothing slots.now) request slots.now }
-    ensures right { ascends 0 slots.now ≡ true → capacity ≤ kind.most → 1 ≤ request.wanted → 1 ≤ request.duration → Right kind capacity (preference policy.now) horizon (at kind.nothing slots.now) request slots.now result }
+    ensures which { ascends 0 slots.now ≡ true → result ≡ granted L.kind capacity (P.preference policy.now) horizon (at L.kind.nothing slots.now) request slots.now }
+    ensures right { ascends 0 slots.now ≡ true → capacity ≤ L.kind.most → 1 ≤ request.wanted → 1 ≤ request.duration → Right L.kind capacity (P.preference policy.now) horizon (at L.kind.nothing slots.now) request slots.now result }
 {
     let all = slots.len();
     let latest = request.deadline.saturating_sub(request.duration);
@@ -179,7 +179,7 @@ pub fn find_claim<L: Units, P: Policy>(
     request: Request,
     policy: &P,
 ) -> Option<Found<L>>
-    ensures { ascends 0 slots.now ≡ true → result ≡ found kind capacity (preference policy.now) horizon (at kind.nothing slots.now) request slots.now }
+    ensures { ascends 0 slots.now ≡ true → result ≡ found L.kind capacity (P.preference policy.now) horizon (at L.kind.nothing slots.now) request slots.now }
 {
     let rectangle = find_start(slots, capacity, horizon, request, policy)?;
     let over = joined_over(slots, rectangle.start, request.duration);

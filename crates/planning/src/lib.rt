@@ -1,4 +1,6 @@
 //! Finds where a request can start beside what is booked, and which start a policy grants it.
+#![tactic(auto)]
+
 pub mod find;
 pub mod found;
 pub mod policy;

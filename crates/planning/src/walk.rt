@@ -23,7 +23,7 @@ pub(crate) fn count_upto<L: Units>(slots: &[Slot<L>], hint: usize, minute: u32) 
 
 // The load that stands from the last of these records on.
 pub(crate) fn last_load<L: Units>(slots: &[Slot<L>]) -> L
-    ensures { result ≡ last_value kind.nothing slots.now }
+    ensures { result ≡ last_value L.kind.nothing slots.now }
 {
     let count = slots.len();
     if count == 0 {
@@ -35,7 +35,7 @@ pub(crate) fn last_load<L: Units>(slots: &[Slot<L>]) -> L
 
 // The joined loads of the `duration` minutes from `start` on, where `here` stands at first and then what the records say.
 pub(crate) fn joined_on<L: Units>(here: L, after: &[Slot<L>], start: u32, duration: u32) -> L
-    ensures { Ascending (suc start) after.now → result ≡ joined_over kind (at here after.now) start duration }
+    ensures { Ascending (suc start) after.now → result ≡ joined_over L.kind (at here after.now) start duration }
 {
     if duration == 0 {
         return L::nothing();
@@ -52,7 +52,7 @@ pub(crate) fn joined_on<L: Units>(here: L, after: &[Slot<L>], start: u32, durati
 
 // The joined loads of the `duration` minutes from `start` on.
 pub(crate) fn joined_over<L: Units>(slots: &[Slot<L>], start: u32, duration: u32) -> L
-    ensures { ascends 0 slots.now ≡ true → result ≡ joined_over kind (at kind.nothing slots.now) start duration }
+    ensures { ascends 0 slots.now ≡ true → result ≡ joined_over L.kind (at L.kind.nothing slots.now) start duration }
 {
     let (before, after) = slots.split_at(count_upto(slots, slots.len(), start));
     joined_on(last_load(before), after, start, duration)
@@ -60,14 +60,14 @@ pub(crate) fn joined_over<L: Units>(slots: &[Slot<L>], start: u32, duration: u32
 
 // Does `load` add nothing to `over`?
 fn silent<L: Units>(over: L, load: L) -> bool
-    ensures { result ≡ kind.same (kind.joined over load) over }
+    ensures { result ≡ L.kind.same (L.kind.joined over load) over }
 {
     over.joined(load).same(over)
 }
 
 // The first minute from which on, up to `start`, no load adds to `over`.
 pub(crate) fn opening<L: Units>(before: &[Slot<L>], over: L, start: u32) -> u32
-    ensures { result ≡ opening_of kind (at kind.nothing before.now) over start }
+    ensures { result ≡ opening_of L.kind (at L.kind.nothing before.now) over start }
 {
     let mut open = start;
     for i in (0..before.len()).rev() {
@@ -90,7 +90,7 @@ pub(crate) fn closing<L: Units>(
     start: u32,
     horizon: u32,
 ) -> u32
-    ensures { Ascending (suc start) after.now → result ≡ closing_of kind (at here after.now) over start (horizon - start) }
+    ensures { Ascending (suc start) after.now → result ≡ closing_of L.kind (at here after.now) over start (horizon - start) }
 {
     if horizon <= start || !silent(over, here) {
         return start;

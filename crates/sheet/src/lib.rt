@@ -1,4 +1,6 @@
 //! The call sheet: its lines, the orders on them, and the text of the answers.
+#![tactic(auto)]
+
 pub mod answer;
 mod bytes;
 mod field;

@@ -155,14 +155,14 @@ module _ {V : Type 0} where
               | inr k ↦ at_after b x (settled same x.value xs) j k ∙ r ∙ sym (at_after b x xs j k)
             ]
 
-  pub changed_right : (same : V → V → Bool) → ((a b : V) → Decides (same a b) (a ≡ b)) → (f : V → V) (from until : ℕ) → from < until → (ground : V) (xs : List (Slot V)) → Ascending 0 xs → Canonical 0 ground (changed_over same f from until ground xs) × ((m : ℕ) → at ground (changed_over same f from until ground xs) m ≡ cond (within from until m) (f (at ground xs m)) (at ground xs m))
-  changed_right same told f from until l ground xs h =
-      let once = split from ground xs in
-      let twice = split until ground once in
-      let a = split_ascending 0 from ground xs h (omega arith) in
-      let b = split_ascending 0 until ground once a (omega arith) in
+  pub changed_right : (same : V → V → Bool) → ((a b : V) → Decides (same a b) (a ≡ b)) → (f : V → V) (from until : ℕ) → from < until → (floor : V) (xs : List (Slot V)) → Ascending 0 xs → Canonical 0 floor (changed_over same f from until floor xs) × ((m : ℕ) → at floor (changed_over same f from until floor xs) m ≡ cond (within from until m) (f (at floor xs m)) (at floor xs m))
+  changed_right same told f from until l floor xs h =
+      let once = split from floor xs in
+      let twice = split until floor once in
+      let a = split_ascending 0 from floor xs h (omega arith) in
+      let b = split_ascending 0 until floor once a (omega arith) in
       let d = made_ascending f from until 0 twice b in (
-        settled_canonical same told 0 ground (map (remade f from until) twice) d,
-        λ m. settled_at same told 0 ground (map (remade f from until) twice) m d ∙ span f from until 0 ground twice m l b (has_still from until ground once l (has_split from ground xs)) (has_split until ground once)
-            ∙ ap (λ v. cond (within from until m) (f v) v) (split_at 0 until ground once m a ∙ split_at 0 from ground xs m h),
+        settled_canonical same told 0 floor (map (remade f from until) twice) d,
+        λ m. settled_at same told 0 floor (map (remade f from until) twice) m d ∙ span f from until 0 floor twice m l b (has_still from until floor once l (has_split from floor xs)) (has_split until floor once)
+            ∙ ap (λ v. cond (within from until m) (f v) v) (split_at 0 until floor once m a ∙ split_at 0 from floor xs m h),
       )

@@ -14,15 +14,15 @@ use Rattle.slots.proofs.Unique.{canonical_ascending}
 
 module _ {V : Type 0} (was is : SlotList V) (xs : List (Slot V)) (w : Rewritten was xs is) where
   pub rewritten_records : records is ≡ xs
-  rewritten_records = ap₂ take w.used-is w.memory-is ∙ laid_holds (slot_of 0 was.ground) was.room xs was.slots.now
+  rewritten_records = ap₂ take w.used_is w.memory_is ∙ laid_holds (slot_of 0 was.floor) was.room xs was.slots.now
 
-  pub rewritten_laid : length xs ≤ was.room → was.room ≤ length was.slots.now → Laid (slot_of 0 is.ground) is.used is.room is.slots.now
-  rewritten_laid l k = rw (w.ground-is, w.used-is, w.room-is, w.memory-is) (laid_is (slot_of 0 was.ground) was.room xs was.slots.now l k)
+  pub rewritten_laid : length xs ≤ was.room → was.room ≤ length was.slots.now → Laid (slot_of 0 is.floor) is.used is.room is.slots.now
+  rewritten_laid l k = rw (w.ground_is, w.used_is, w.room_is, w.memory_is) (laid_is (slot_of 0 was.floor) was.room xs was.slots.now l k)
 
-  pub rewritten_tidy : length xs ≤ was.room → was.room ≤ length was.slots.now → Canonical 0 was.ground xs → Tidy is
+  pub rewritten_tidy : length xs ≤ was.room → was.room ≤ length was.slots.now → Canonical 0 was.floor xs → Tidy is
   rewritten_tidy l k c = record {
     laid_out = rewritten_laid l k;
-    canonical = rw (w.ground-is, rewritten_records) c;
+    canonical = rw (w.ground_is, rewritten_records) c;
   }
 
 module _ {V : Type 0} (was : SlotList V) (t : Tidy was) where
@@ -35,17 +35,17 @@ module _ {V : Type 0} (was : SlotList V) (t : Tidy was) where
     used_is = sym records_long;
     room_is = refl;
     ground_is = refl;
-    memory_is = laid_now (slot_of 0 was.ground) was.used was.room was.slots.now t.laid_out;
+    memory_is = laid_now (slot_of 0 was.floor) was.used was.room was.slots.now t.laid_out;
   }
 
 module _ {V : Type 0} (from until : ℕ) (was : SlotList V) (same : V → V → Bool) (told : (a b : V) → Decides (same a b) (a ≡ b)) (f : V → V) where
   -- a change, made or refused, leaves a tidy list
-  pub change_tidy : (is : SlotList V) (r : Bool) → Tidy was → r ≡ changeable from until was.room (records was) → Rewritten was (cond r (edited same f from until was.ground (records was)) (records was)) is → Tidy is
+  pub change_tidy : (is : SlotList V) (r : Bool) → Tidy was → r ≡ changeable from until was.room (records was) → Rewritten was (cond r (edited same f from until was.floor (records was)) (records was)) is → Tidy is
   change_tidy is true t e w =
       let xs = records was in
       let both = and_parts (ltb from until) (leb (length xs + (lacks from xs + lacks until xs)) was.room) (sym e) in
       let room = leb-true _ _ both.1 in
-      let fits = edited_short same told f from until was.ground xs (ltb-true _ _ both.0) (canonical_ascending 0 was.ground xs t.canonical) in
-      rewritten_tidy was is (edited same f from until was.ground xs) w (omega arith) t.laid_out.room_fits (edited_right same told f from until was.ground xs).0
+      let fits = edited_short same told f from until was.floor xs (ltb-true _ _ both.0) (canonical_ascending 0 was.floor xs t.canonical) in
+      rewritten_tidy was is (edited same f from until was.floor xs) w (omega arith) t.laid_out.room_fits (edited_right same told f from until was.floor xs).0
   change_tidy is false t e w =
       rewritten_tidy was is (records was) w (omega (arith, records_long was t, t.laid_out.used_fits)) t.laid_out.room_fits t.canonical

@@ -47,7 +47,7 @@ module _ {V : Type 0} (same : V → V → Bool) (told : (a b : V) → Decides (s
 
   -- a tidy list, the spots of the span's ends in it, and what lies in memory once their records are put in, once the records are gone over, and once the rest is blank
   module _ (was : SlotList V) (tidy : Tidy was) (ends : Ends V)
-      (a : Found from was.ground (records was) ends.start) (b : Found until ends.start.fresh.value (drop ends.start.place (records was)) ends.end)
+      (a : Found from was.floor (records was) ends.start) (b : Found until ends.start.fresh.value (drop ends.start.place (records was)) ends.end)
       (fits : length (put_of ends.start) + length (put_of ends.end) ≤ was.room - was.used)
       (s1 s2 : List (Slot V)) (u1 left : ℕ)
       (u1-is : u1 ≡ was.used + (length (put_of ends.start) + length (put_of ends.end))) (s1-is : s1 ≡ over (both_in ends (records was)) was.slots.now)
@@ -61,30 +61,30 @@ module _ {V : Type 0} (same : V → V → Bool) (told : (a b : V) → Decides (s
     memory = was.slots.now
 
     abbrev new : List (Slot V)
-    new = edited same f from until was.ground xs
+    new = edited same f from until was.floor xs
 
     inside : was.used ≤ length memory
     inside = omega (arith, tidy.laid_out.used_fits, tidy.laid_out.room_fits)
 
-    apart : both_in ends xs ≡ parted from until was.ground xs
-    apart = both_parted from until span was.ground xs ends a b
+    apart : both_in ends xs ≡ parted from until was.floor xs
+    apart = both_parted from until span was.floor xs ends a b
 
     count : u1 ≡ length (both_in ends xs)
-    count = omega (arith, u1-is, ap length apart, parted_length from until was.ground xs span, length-take-le was.used memory inside, start_lacks from until span was.ground xs ends a b, end_lacks from until span was.ground xs ends a b)
+    count = omega (arith, u1-is, ap length apart, parted_length from until was.floor xs span, length-take-le was.used memory inside, start_lacks from until span was.floor xs ends a b, end_lacks from until span was.floor xs ends a b)
 
     gone_over : changed_from same f from until ends.start.place ends.start.fresh.value (take u1 s1) ≡ new
     gone_over =
         ap (λ ys. changed_from same f from until ends.start.place ends.start.fresh.value ys) (ap (take u1) s1-is ∙ take_over (both_in ends xs) memory u1 count ∙ apart)
-        ∙ ap₂ (λ (i : ℕ) v. changed_from same f from until i v (parted from until was.ground xs)) a.place_is (before_start from until span was.ground xs ends a b)
-        ∙ front_kept 0 was.ground xs tidy.canonical
-        ∙ changed_edited same told f from until was.ground xs span (canonical_ascending 0 was.ground xs tidy.canonical)
+        ∙ ap₂ (λ (i : ℕ) v. changed_from same f from until i v (parted from until was.floor xs)) a.place_is (before_start from until span was.floor xs ends a b)
+        ∙ front_kept 0 was.floor xs tidy.canonical
+        ∙ changed_edited same told f from until was.floor xs span (canonical_ascending 0 was.floor xs tidy.canonical)
 
     pub left_new : left ≡ length new
     left_new = left_is ∙ ap length gone_over
 
-    pub memory_new : paste s2 left (replicate (u1 - left) (slot_of 0 was.ground)) (u1 - left) ≡ laid (slot_of 0 was.ground) was.room new memory
+    pub memory_new : paste s2 left (replicate (u1 - left) (slot_of 0 was.floor)) (u1 - left) ≡ laid (slot_of 0 was.floor) was.room new memory
     memory_new =
-        let blank = slot_of 0 was.ground in
+        let blank = slot_of 0 was.floor in
         let sum : left + (u1 - left) ≡ u1 = omega arith in
         let behind = rest ∙ ap (drop u1) s1-is ∙ drop_over (both_in ends xs) memory u1 (omega (arith, count)) in
         paste_all s2 left (replicate (u1 - left) blank) (u1 - left) (sym (length-replicate (u1 - left) blank))

@@ -11,8 +11,8 @@ records list = take list.used list.slots.now
 
 -- the list is canonical, and blanks stand behind it
 pub record Tidy {V : Type 0} (list : SlotList V) : Type 0 where
-  pub laid_out : Laid (slot_of 0 list.ground) list.used list.room list.slots.now
-  pub canonical : Canonical 0 list.ground (records list)
+  pub laid_out : Laid (slot_of 0 list.floor) list.used list.room list.slots.now
+  pub canonical : Canonical 0 list.floor (records list)
 
 -- the span has a minute, and the records with one at each of its ends find room
 abbrev pub changeable : {V : Type 0} → ℕ → ℕ → ℕ → List (Slot V) → Bool
@@ -22,5 +22,5 @@ changeable from until room xs = nat_lt from until && nat_le (length xs + (lacks 
 pub record Rewritten {V : Type 0} (was : SlotList V) (xs : List (Slot V)) (is : SlotList V) : Type 0 where
   pub used_is : is.used ≡ length xs
   pub room_is : is.room ≡ was.room
-  pub ground_is : is.ground ≡ was.ground
-  pub memory_is : is.slots.now ≡ laid (slot_of 0 was.ground) was.room xs was.slots.now
+  pub ground_is : is.floor ≡ was.floor
+  pub memory_is : is.slots.now ≡ laid (slot_of 0 was.floor) was.room xs was.slots.now

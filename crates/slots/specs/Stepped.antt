@@ -1,5 +1,5 @@
 -- Values over the minutes, written as a list of records: from its minute on, each record's value stands. Assumes nothing.
-use Rattle.std.specs.Prelude.{◌≡◌, ℕ, zero, suc, ◌≤◌, max, Bool, true, cond, ◌&&◌, List, [], ◌∷◌, map, ◌≢◌, nat_le, nat_lt}
+use Rattle.std.specs.Prelude.{ℕ, zero, suc, ◌≤◌, max, Bool, true, cond, ◌&&◌, List, [], ◌∷◌, map, ◌≢◌, nat_le, nat_lt}
 use Rattle.slots.specs.declared.slot.Slot.{Slot}
 
 abbrev pub slot_of : {V : Type 0} → ℕ → V → Slot V
@@ -44,4 +44,4 @@ changes same value before m (suc n) = let rest = changes same value (value m) (s
 
 -- the list of the values with f done to those of the span
 abbrev pub edited : {V : Type 0} → (V → V → Bool) → (V → V) → ℕ → ℕ → V → List (Slot V) → List (Slot V)
-edited same f from until ground xs = changes same (λ m. let v = at ground xs m in cond (within from until m) (f v) v) ground 0 (suc (max until (last_minute xs)))
+edited same f from until floor xs = changes same (λ m. let v = at floor xs m in cond (within from until m) (f v) v) floor 0 (suc (max until (last_minute xs)))

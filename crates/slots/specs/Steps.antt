@@ -41,11 +41,11 @@ settled same before (s ∷ xs) = let rest = settled same s.value xs in cond (sam
 
 -- with a record at each end of the span
 abbrev pub parted : {V : Type 0} → ℕ → ℕ → V → List (Slot V) → List (Slot V)
-parted from until ground xs = split until ground (split from ground xs)
+parted from until floor xs = split until floor (split from floor xs)
 
 -- the records with the values in the span changed
 abbrev pub changed_over : {V : Type 0} → (V → V → Bool) → (V → V) → ℕ → ℕ → V → List (Slot V) → List (Slot V)
-changed_over same f from until ground xs = settled same ground (map (remade f from until) (parted from until ground xs))
+changed_over same f from until floor xs = settled same floor (map (remade f from until) (parted from until floor xs))
 
 -- the same, where only the records from the place i on are gone over
 abbrev pub changed_from : {V : Type 0} → (V → V → Bool) → (V → V) → ℕ → ℕ → ℕ → V → List (Slot V) → List (Slot V)

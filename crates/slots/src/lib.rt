@@ -1,4 +1,6 @@
 //! Values over the minutes, as a list of records in lent memory.
+#![tactic(auto)]
+
 pub mod change;
 pub mod list;
 mod reads;

@@ -10,35 +10,35 @@ use crate::slot::Slot;
 use crate::value::Value;
 use crate::writes::{fill_from, gather, part};
 
-// Values over the minutes: `ground` before the first of the first `used` records. The first `room` records are the list's own.
+// Values over the minutes: `floor` before the first of the first `used` records. The first `room` records are the list's own.
 #[derive(Drop)]
 pub struct SlotList<'m, V> {
     pub slots: &'m mut [Slot<V>],
     pub used: usize,
     pub room: usize,
-    pub ground: V,
+    pub floor: V,
 }
 
 impl<'m, V: Copy> SlotList<'m, V> {
     // A list with no records over the first `room` of the lent ones, or all if fewer are lent. It blanks those, and leaves the others.
-    pub fn new(slots: &'m mut [Slot<V>], room: usize, ground: V) -> SlotList<'m, V>
+    pub fn new(slots: &'m mut [Slot<V>], room: usize, floor: V) -> SlotList<'m, V>
         ensures used { result.used ≡ 0 }
         ensures room { result.room ≡ min room (length slots.old) }
-        ensures ground { result.ground ≡ ground }
-        ensures slots { result.slots.now ≡ laid (slot_of 0 ground) result.room [] slots.old }
+        ensures floor { result.floor ≡ floor }
+        ensures slots { result.slots.now ≡ laid (slot_of 0 floor) result.room [] slots.old }
         ensures lent { result.slots.ghost_name ≡ slots.entry.ghost_name }
     {
         let own = room.min(slots.len());
         let blank = Slot {
             minute: 0,
-            value: ground,
+            value: floor,
         };
         fill_from(slots, 0, own, blank);
         SlotList {
             slots,
             used: 0,
             room: own,
-            ground,
+            floor,
         }
     }
 
@@ -51,7 +51,7 @@ impl<'m, V: Copy> SlotList<'m, V> {
             slots,
             used,
             room,
-            ground,
+            floor,
         } = self;
         slots
     }
@@ -66,19 +66,19 @@ impl<'m, V: Copy> SlotList<'m, V> {
 
     // The value at `minute`.
     pub fn at(&self, minute: u32) -> V
-        ensures { result ≡ at self.now.ground (records self.now) minute }
+        ensures { result ≡ at self.now.floor (records self.now) minute }
     {
-        value_at(self.records(), self.ground, minute)
+        value_at(self.records(), self.floor, minute)
     }
 
     // Where records at the span's ends stand, or go.
     fn ends(&self, from: u32, until: u32) -> Ends<V>
         requires { self.now.used ≤ length self.now.slots.now }
-        ensures start { Found from self.now.ground (records self.now) result.start }
+        ensures start { Found from self.now.floor (records self.now) result.start }
         ensures end { Found until result.start.fresh.value (drop result.start.place (records self.now)) result.end }
         ensures inside { result.start.place + result.end.place ≤ self.now.used }
     {
-        ends_of(&self.slots[0..self.used], self.ground, from, until)
+        ends_of(&self.slots[0..self.used], self.floor, from, until)
     }
 }
 
@@ -86,9 +86,9 @@ impl<'m, V: Value> SlotList<'m, V> {
     // Changes the value at each minute from `from` on and before `until`, if there is one and the records at the ends find room, and says whether it did.
     pub fn change<C: Change<V>>(&mut self, from: u32, until: u32, how: &C) -> bool
         ensures answer { Tidy self.old → result ≡ changeable from until self.old.room (records self.old) }
-        ensures list { Tidy self.old → Rewritten self.old (if result then edited alike (changed how.now) from until self.old.ground (records self.old) else records self.old) self.new }
+        ensures list { Tidy self.old → Rewritten self.old (if result then edited V.alike (C.changed how.now) from until self.old.floor (records self.old) else records self.old) self.new }
         ensures room { self.new.room ≡ self.old.room }
-        ensures ground { self.new.ground ≡ self.old.ground }
+        ensures floor { self.new.floor ≡ self.old.floor }
         ensures len { length self.new.slots.now ≡ length self.old.slots.now }
         ensures lent { self.new.slots.ghost_name ≡ self.old.slots.ghost_name }
     {
@@ -100,12 +100,12 @@ impl<'m, V: Value> SlotList<'m, V> {
             return false;
         }
         let used = self.used;
-        let ground = self.ground;
+        let floor = self.floor;
         let parted = part(self.slots, used, ends);
         let left = gather(self.slots, ends.start, parted, from, until, how);
         let blank = Slot {
             minute: 0,
-            value: ground,
+            value: floor,
         };
         fill_from(self.slots, left, parted - left, blank);
         self.used = left;

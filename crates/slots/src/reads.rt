@@ -4,11 +4,11 @@ ghost use Rattle.slots.specs.Steps.{place, last_of, Found, put_of};
 
 use crate::slot::Slot;
 
-// The value at `minute`, where `ground` stands before the records.
-pub(crate) fn value_at<V: Copy>(slots: &[Slot<V>], ground: V, minute: u32) -> V
-    ensures { result ≡ at ground slots.now minute }
+// The value at `minute`, where `floor` stands before the records.
+pub(crate) fn value_at<V: Copy>(slots: &[Slot<V>], floor: V, minute: u32) -> V
+    ensures { result ≡ at floor slots.now minute }
 {
-    let mut value = ground;
+    let mut value = floor;
     for s in slots {
         if s.minute <= minute {
             value = s.value;
@@ -30,11 +30,11 @@ fn place_of<V: Copy>(slots: &[Slot<V>], minute: u32) -> usize
 }
 
 // The value before the record `i`.
-fn before<V: Copy>(slots: &[Slot<V>], ground: V, i: usize) -> V
+fn before<V: Copy>(slots: &[Slot<V>], floor: V, i: usize) -> V
     requires { i ≤ length slots.now }
-    ensures { result ≡ last_of ground (take i slots.now) }
+    ensures { result ≡ last_of floor (take i slots.now) }
 {
-    if i == 0 { ground } else { slots[i - 1].value }
+    if i == 0 { floor } else { slots[i - 1].value }
 }
 
 // Where a record at a minute stands, or goes, and the record to put there.
@@ -78,13 +78,13 @@ impl<V: Copy> Ends<V> {
 }
 
 // Where a record at `minute` stands, or goes.
-fn spot_of<V: Copy>(slots: &[Slot<V>], ground: V, minute: u32) -> Spot<V>
-    ensures found { Found minute ground slots.now result }
+fn spot_of<V: Copy>(slots: &[Slot<V>], floor: V, minute: u32) -> Spot<V>
+    ensures found { Found minute floor slots.now result }
     ensures inside { result.place ≤ length slots.now }
 {
     let place = place_of(slots, minute);
     let there = place < slots.len() && slots[place].minute == minute;
-    let value = before(slots, ground, place);
+    let value = before(slots, floor, place);
     Spot {
         place,
         there,
@@ -93,12 +93,12 @@ fn spot_of<V: Copy>(slots: &[Slot<V>], ground: V, minute: u32) -> Spot<V>
 }
 
 // The same of both ends of a span, where the end is looked for from the start on.
-pub(crate) fn ends_of<V: Copy>(slots: &[Slot<V>], ground: V, from: u32, until: u32) -> Ends<V>
-    ensures start { Found from ground slots.now result.start }
+pub(crate) fn ends_of<V: Copy>(slots: &[Slot<V>], floor: V, from: u32, until: u32) -> Ends<V>
+    ensures start { Found from floor slots.now result.start }
     ensures end { Found until result.start.fresh.value (drop result.start.place slots.now) result.end }
     ensures inside { result.start.place + result.end.place ≤ length slots.now }
 {
-    let start = spot_of(slots, ground, from);
+    let start = spot_of(slots, floor, from);
     let end = spot_of(&slots[start.place..slots.len()], start.value(), until);
     Ends { start, end }
 }

@@ -48,7 +48,7 @@ pub(crate) fn part<V: Copy>(slots: &mut [Slot<V>], used: usize, ends: Ends<V>) -
 
 // The record with its value changed, if it stands from `from` on and before `until`.
 fn remade_by<V: Copy, C: Change<V>>(s: Slot<V>, from: u32, until: u32, how: &C) -> Slot<V>
-    ensures { result ≡ remade (changed how.now) from until s }
+    ensures { result ≡ remade (C.changed how.now) from until s }
 {
     if from <= s.minute && s.minute < until {
         Slot {
@@ -70,8 +70,8 @@ pub(crate) fn gather<V: Value, C: Change<V>>(
     how: &C,
 ) -> usize
     requires { (start.place ≤ used) × (used ≤ length slots.old) }
-    ensures count { result ≡ length (changed_from alike (changed how.now) from until start.place start.fresh.value (take used slots.old)) }
-    ensures front { take result slots.new ≡ changed_from alike (changed how.now) from until start.place start.fresh.value (take used slots.old) }
+    ensures count { result ≡ length (changed_from V.alike (C.changed how.now) from until start.place start.fresh.value (take used slots.old)) }
+    ensures front { take result slots.new ≡ changed_from V.alike (C.changed how.now) from until start.place start.fresh.value (take used slots.old) }
     ensures rest { drop used slots.new ≡ drop used slots.old }
     ensures fewer { result ≤ used }
 {

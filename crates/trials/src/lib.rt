@@ -1,4 +1,6 @@
 //! Many sheets, and what they must be answered.
+#![tactic(auto)]
+
 #[cfg(test)]
 mod boards;
 #[cfg(test)]

@@ -1,8 +1,9 @@
 // Crew: mechanics who are told apart by their numbers, from 1 to 64.
 ghost use Rattle.std.specs.Prelude.{◌≡◌, ◌<◌, ◌≤◌, MatchOption, count_ones};
 ghost use Rattle.units.specs.Sets.{without, lowest, AreLowest};
-ghost use Rattle.units.specs.Crews.{crew_kind, crew_same, crew_free, crew_pick, idle, mechanics};
-ghost use Rattle.std.proofs.Common.{rules};
+ghost use Rattle.units.specs.Crews.{crew_kind, crew_clear, crew_same, crew_free, crew_pick, idle, mechanics};
+ghost use Rattle.std.proofs.Common.{rules, arith};
+ghost use Rattle.std.proofs.lemmas.Bool.Decides.{nat_tests};
 ghost use Rattle.units.specs.CrewLaws.{crew_laws};
 
 use crate::kind::Units;
@@ -61,7 +62,12 @@ impl Value for Crew {
 impl Units for Crew {
     ghost kind = { crew_kind };
 
-    ghost keeps = { crew_laws };
+    ghost keeps = { λ c.
+        crew_laws c crew_clear record {
+          shares_none = λ p l h. Prim.grind (arith, nat_tests);
+          none_above = λ p l h. Prim.grind (arith, nat_tests);
+          is_clear = λ p l apart known. Prim.grind (arith, nat_tests);
+        } };
 
     fn most() -> u32 {
         MOST

@@ -5,7 +5,7 @@ use Rattle.bookings.specs.Rows.{bookings}
 use Rattle.bookings.specs.declared.row.Row.{Row}
 use Rattle.bookings.proofs.Folds.{here, not_here, next}
 use Rattle.bookings.proofs.load.load_at.Goals as goal
-use Rattle.bookings.proofs.load.load_at.Goals.{then-stands-at, else-stands-at}
+use Rattle.bookings.proofs.load.load_at.Goals.{then-stands_at, else-stands_at}
 
 pub loop-row-preserved : goal.loop-row-preserved
 loop-row-preserved g c =
@@ -16,9 +16,9 @@ loop-row-preserved g c =
     let l = c.loop-row.load in
     let turn = next k c.args.capacity c.args.minute l rows i r c.loop-row-test.true c.row-item.is in
     let was = c.loop-row.invariant in
-    elim c.if-stands-at.branch [
-      | then-stands-at w ↦ let e = here k c.args.capacity c.args.minute l r (drop (i + 1) rows) (sym c.stands-at.ensures ∙ w.if-stands-at.true) in let is = w.load-is in let put = w.put-load.ensures in cc
-      | else-stands-at w ↦ let e = not_here k c.args.capacity c.args.minute l r (drop (i + 1) rows) (sym c.stands-at.ensures ∙ w.if-stands-at.false) in let is = w.load-is in cc
+    elim c.if-stands_at.branch [
+      | then-stands_at w ↦ let e = here k c.args.capacity c.args.minute l r (drop (i + 1) rows) (sym c.stands_at.ensures ∙ w.if-stands_at.true) in let is = w.load-is in let put = w.put-load.ensures in cc
+      | else-stands_at w ↦ let e = not_here k c.args.capacity c.args.minute l r (drop (i + 1) rows) (sym c.stands_at.ensures ∙ w.if-stands_at.false) in let is = w.load-is in cc
     ]
 
 pub returns : goal.returns

@@ -18,8 +18,8 @@ pub loop-item-preserved : goal.loop-item-preserved
 loop-item-preserved c =
     let s = c.in-Some.ensures.steps in (
       s.0 ∙ c.loop-item.invariant.0,
-      turn c.args.sheet.now c.loop-item.item-iterator.sheet.now c.loop-item.item-iterator.at c.next.new.self.at c.in-Some.item (holding c.loop-item.board) (holding c.run-line-answer.new.board) (string_bytes c.loop-item.out) (string_bytes c.write-to.new.out) _ c.run-line-answer.result c.slots.result.now
-          c.loop-item.invariant.0 s.1 c.loop-item.invariant.1 c.run-line-answer.ensures.answer c.run-line-answer.ensures.board c.slots.ensures c.in-ok-write-to.ensures,
+      turn c.args.sheet.now c.loop-item.item-iterator.sheet.now c.loop-item.item-iterator.at c.next.new.self.at c.in-Some.item (holding c.loop-item.board) (holding c.run_line-answer.new.board) (string_bytes c.loop-item.out) (string_bytes c.write_to.new.out) _ c.run_line-answer.result c.slots.result.now
+          c.loop-item.invariant.0 s.1 c.loop-item.invariant.1 c.run_line-answer.ensures.answer c.run_line-answer.ensures.board c.slots.ensures c.in_ok-write_to.ensures,
     )
 
 pub returns : goal.returns

@@ -29,16 +29,16 @@ loop-i-preserved g c asc =
       | then-not-settled w ↦
           let more : suc i ≡ i + 1 = omega arith in
           let late = lowered (suc x.minute) (suc s) (drop (i + 1) xs) (subst (λ n. Ascending (suc x.minute) (drop n xs)) more (onward 0 i x xs asc c.loop-i-test.true c.index-slots-i.is).2) (omega arith) in
-          let after = subst (λ n. Ascending (suc n) (drop (i + 1) xs)) (sym c.saturating-sub-start.ensures) late in
-          let told = w.found-at-found.ensures asc after last in
-          let found = told.0 ∙ ap (found_at k c.args.capacity c.args.horizon load request) c.saturating-sub-start.ensures in
-          let kept = newer k c.args.capacity c.args.horizon load request w.found-at-found.result c.loop-i.last told.1 last in (
-            sym (turn k c.args.capacity p c.args.horizon load request b c.if-not-settled.best (rectangle_of w.found-at-found.result) s rest found (w.best-is ∙ w.better-of-best.ensures)) ∙ was,
+          let after = subst (λ n. Ascending (suc n) (drop (i + 1) xs)) (sym c.saturating_sub-start.ensures) late in
+          let told = w.found_at-found.ensures asc after last in
+          let found = told.0 ∙ ap (found_at k c.args.capacity c.args.horizon load request) c.saturating_sub-start.ensures in
+          let kept = newer k c.args.capacity c.args.horizon load request w.found_at-found.result c.loop-i.last told.1 last in (
+            sym (turn k c.args.capacity p c.args.horizon load request b c.if-not-settled.best (rectangle_of w.found_at-found.result) s rest found (w.best-is ∙ w.better_of-best.ensures)) ∙ was,
             subst hit (sym (w.last-is ∙ w.or-last.ensures)) kept,
           )
       | else-not-settled w ↦ (
         ap (λ v. try v rest) w.best-is
-            ∙ sym (passed_over k c.args.capacity p c.args.horizon load request b s rest (λ q e. c.settled.ensures w.if-not-settled.false q (e ∙ sym c.saturating-sub-start.ensures)))
+            ∙ sym (passed_over k c.args.capacity p c.args.horizon load request b s rest (λ q e. c.settled.ensures w.if-not-settled.false q (e ∙ sym c.saturating_sub-start.ensures)))
             ∙ was,
         subst hit (sym w.last-is) last,
       )

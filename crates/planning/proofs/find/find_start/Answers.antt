@@ -26,11 +26,11 @@ returns g c =
     let try = trying k n p h load request in
     let both = better_of p (better_of p None (found_at k n h load request request.ready)) (found_at k n h load request (latest request)) in
     let none = λ (s : ℕ). subst (Ascending (suc s)) (sym (drop_all (length xs) xs (omega arith))) tt in
-    let which : ascends 0 xs ≡ true → c.best-ahead.result ≡ granted k n p h load request xs = λ up.
+    let which : ascends 0 xs ≡ true → c.best_ahead.result ≡ granted k n p h load request xs = λ up.
     let asc = ascending 0 xs up in
-    let soon = c.found-at-soonest.ensures asc (none request.ready) tt in
-    let late = (c.found-at-last.ensures asc (none c.saturating-sub-latest.result) soon.1).0 ∙ ap (found_at k n h load request) c.saturating-sub-latest.ensures in
-    let ends = c.better-of-ends.ensures ∙ ap₂ (better_of p) (c.better-of-first.ensures ∙ ap (better_of p None) soon.0) late in
-    let begins = c.best-ahead-begins.ensures asc ∙ ap₂ try ends (no_lead (minutes xs)) in
-    c.best-ahead.ensures asc ∙ ap (λ b. try b last) begins ∙ sym (in_parts k n p h load request both (minutes xs) last) ∙ granted_is k n p h load request xs in
-    record { which = which; right = λ up most wants lasts. right k n (g.met.L.Units.keeps n most) p h xs request wants lasts c.best-ahead.result (sym (which up)) }
+    let soon = c.found_at-soonest.ensures asc (none request.ready) tt in
+    let late = (c.found_at-last.ensures asc (none c.saturating_sub-latest.result) soon.1).0 ∙ ap (found_at k n h load request) c.saturating_sub-latest.ensures in
+    let ends = c.better_of-ends.ensures ∙ ap₂ (better_of p) (c.better_of-first.ensures ∙ ap (better_of p None) soon.0) late in
+    let begins = c.best_ahead-begins.ensures asc ∙ ap₂ try ends (no_lead (minutes xs)) in
+    c.best_ahead.ensures asc ∙ ap (λ b. try b last) begins ∙ sym (in_parts k n p h load request both (minutes xs) last) ∙ granted_is k n p h load request xs in
+    record { which = which; right = λ up most wants lasts. right k n (g.met.L.Units.keeps n most) p h xs request wants lasts c.best_ahead.result (sym (which up)) }

@@ -21,8 +21,8 @@ loop-slot-preserved g c =
     ∙ sym (next (covered k s d over) xs i x c.loop-slot-test.true c.slot-item.is)
     ∙ c.loop-slot.invariant
 
-pub returns-then-duration-saturating-sub : goal.returns-then-duration-saturating-sub
-returns-then-duration-saturating-sub g c asc =
+pub returns-then-duration-saturating_sub : goal.returns-then-duration-saturating_sub
+returns-then-duration-saturating_sub g c asc =
     let k = g.L.Units.kind in
     let s = c.args.start in
     let d = c.args.duration in

@@ -7,7 +7,7 @@ use Rattle.sheet.proofs.answer.list_text.Goals as goal
 
 pub loop-slot-preserved : goal.loop-slot-preserved
 loop-slot-preserved c =
-    joined_grows slot_text (line_text (codes "list") (length c.args.slots.now ∷ [])) _ _ _ c.args.slots.now c.loop-slot.slot-index _ c.loop-slot-test.true c.loop-slot.invariant (c.deref.ensures ∙ c.in-ok-line.ensures) c.in-ok-push-str.ensures.bytes
+    joined_grows slot_text (line_text (codes "list") (length c.args.slots.now ∷ [])) _ _ _ c.args.slots.now c.loop-slot.slot-index _ c.loop-slot-test.true c.loop-slot.invariant (c.deref.ensures ∙ c.in_ok-line.ensures) c.in_ok-push_str.ensures.bytes
 
 pub returns : goal.returns
 returns c =

@@ -6,10 +6,10 @@ use Rattle.slots.proofs.reads.ends_of.Goals as goal
 pub returns : goal.returns
 returns g c =
     let xs = c.args.slots.now in
-    let at = c.spot-of-start.result.place in
+    let at = c.spot_of-start.result.place in
     let rest = take_rest xs at in
     record {
-      start = c.spot-of-start.ensures.found;
-      end = subst₂ (λ v ys. Found c.args.until v ys c.spot-of-end.result) c.value.ensures rest c.spot-of-end.ensures.found;
-      inside = omega (arith, c.spot-of-end.ensures.inside, c.spot-of-start.ensures.inside, ap length rest, length-drop at xs);
+      start = c.spot_of-start.ensures.found;
+      end = subst₂ (λ v ys. Found c.args.until v ys c.spot_of-end.result) c.value.ensures rest c.spot_of-end.ensures.found;
+      inside = omega (arith, c.spot_of-end.ensures.inside, c.spot_of-start.ensures.inside, ap length rest, length-drop at xs);
     }

@@ -13,9 +13,9 @@ pub returns : goal.returns
 returns g c =
     let xs = c.args.slots.now in
     let m = c.args.minute in
-    let b = c.args.ground in
-    let i = c.place-of-place.result in
-    let p = c.place-of-place.ensures in
+    let b = c.args.floor in
+    let i = c.place_of-place.result in
+    let p = c.place_of-place.ensures in
     let there = c.if-place-slots.there in
     let fresh = slot_of m c.before-value.result in
     let same : fresh ≡ slot_of m (last_of b (take i xs)) = ap (slot_of m) c.before-value.ensures in

@@ -5,8 +5,8 @@ use Rattle.slots.specs.declared.slot.Slot.{Slot}
 use Rattle.slots.proofs.Moves.{opened_is, put_none}
 use Rattle.slots.proofs.writes.put_at.Goals as goal
 
-pub open-at-requires : goal.open-at-requires
-open-at-requires g c =
+pub open_at-requires : goal.open_at-requires
+open_at-requires g c =
     let spot = c.args.spot in
     (c.requires.0, omega (arith, c.requires.1, ap length (cond-false spot.there [] (spot.fresh ∷ []) c.if-spot.false)))
 
@@ -29,5 +29,5 @@ returns-else-spot g c =
     let e : put_of spot ≡ spot.fresh ∷ [] = cond-false spot.there [] (spot.fresh ∷ []) c.if-spot.false in
     record {
       used = omega (arith, ap length e);
-      slots = c.open-at.ensures ∙ opened_is c.args.place used spot.fresh xs c.requires.0 (omega (arith, c.requires.1, ap length e)) ∙ ap (λ (ys : List (Slot g.row.V.Denot)). over (put_in c.args.place ys (take used xs)) xs) (sym e);
+      slots = c.open_at.ensures ∙ opened_is c.args.place used spot.fresh xs c.requires.0 (omega (arith, c.requires.1, ap length e)) ∙ ap (λ (ys : List (Slot g.row.V.Denot)). over (put_in c.args.place ys (take used xs)) xs) (sym e);
     }

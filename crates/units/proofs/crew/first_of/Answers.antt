@@ -12,18 +12,18 @@ loop-i-init c = lowest_none c.args.mask
 next : (c : goal.After-others) → First 64 (without c.args.mask c.loop-i.picked) (count_trailing_zeros 64 c.others.result)
 next c =
     subst (λ left. First 64 (without c.args.mask c.loop-i.picked) (count_trailing_zeros 64 left)) (sym c.others.ensures)
-    (first_left c.loop-i.-i c.args.mask c.loop-i.picked c.loop-i.invariant (omega arith) (omega arith))
+    (first_left c.loop-i._i c.args.mask c.loop-i.picked c.loop-i.invariant (omega arith) (omega arith))
 
-pub overflow-shl-picked : goal.overflow-shl-picked
-overflow-shl-picked c = (next c).below
+pub overflow_shl-picked : goal.overflow_shl-picked
+overflow_shl-picked c = (next c).below
 
 pub loop-i-preserved : goal.loop-i-preserved
 loop-i-preserved c =
     let t : ℕ = count_trailing_zeros 64 c.others.result in
-    rw (add-one, one_shl t 64 (next c).below) (lowest_next c.loop-i.-i c.args.mask c.loop-i.picked t c.loop-i.invariant (next c))
+    rw (add-one, one_shl t 64 (next c).below) (lowest_next c.loop-i._i c.args.mask c.loop-i.picked t c.loop-i.invariant (next c))
 
 pub returns : goal.returns
 returns c =
-    let all : c.args.wanted ≡ c.loop-i.-i = omega arith in
+    let all : c.args.wanted ≡ c.loop-i._i = omega arith in
     let low : AreLowest c.args.wanted c.args.mask c.loop-i.picked = rw all c.loop-i.invariant in
     record { which = lowest_only c.args.wanted c.args.mask c.loop-i.picked (omega arith) low; first = low }

@@ -12,28 +12,28 @@ pub enter-requires : goal.enter-requires
 enter-requires g c =
     let k = g.L.Units.kind in
     let was = c.args.self.now in
-    let free = sym c.hold_check.ensures ∙ c.in-default.is in
+    let free = sym c.hold_check.ensures ∙ c.in_default.is in
     let policy = g.P.Policy.preference c.args.policy.now in
-    let hit = some_found k g.met.L.Units.keeps was.slots.ground (holding was) (kept_of k was c.told.ensures) c.args.request policy c.records.result.now c.records.ensures c.find-claim.result c.find-claim.ensures free c.in-Some-find-claim.found c.in-Some-find-claim.is in
+    let hit = some_found k g.met.L.Units.keeps was.slots.floor (holding was) (kept_of k was c.told.ensures) c.args.request policy c.records.result.now c.records.ensures c.find_claim.result c.find_claim.ensures free c.in-Some-find_claim.found c.in-Some-find_claim.is in
     (free, (policy, hit.0))
 
 pub returns-in-None : goal.returns-in-None
 returns-in-None g c =
     let k = g.L.Units.kind in
     let was = c.args.self.now in
-    let free = sym c.hold_check.ensures ∙ c.in-default.is in
+    let free = sym c.hold_check.ensures ∙ c.in_default.is in
     let policy = g.P.Policy.preference c.args.policy.now in
-    let miss = none_found k g.met.L.Units.keeps was.slots.ground (holding was) (kept_of k was c.told.ensures) c.args.request policy c.records.result.now c.records.ensures c.find-claim.result c.find-claim.ensures free c.in-None.is in
+    let miss = none_found k g.met.L.Units.keeps was.slots.floor (holding was) (kept_of k was c.told.ensures) c.args.request policy c.records.result.now c.records.ensures c.find_claim.result c.find_claim.ensures free c.in-None.is in
     record { answer = miss.0; board = miss.1; takes = tt; rest = refl; lent = (refl, refl) }
 
-pub returns-in-Some-find-claim : goal.returns-in-Some-find-claim
-returns-in-Some-find-claim g c =
+pub returns-in-Some-find_claim : goal.returns-in-Some-find_claim
+returns-in-Some-find_claim g c =
     let k = g.L.Units.kind in
     let was = c.args.self.now in
-    let free = sym c.hold_check.ensures ∙ c.in-default.is in
+    let free = sym c.hold_check.ensures ∙ c.in_default.is in
     let policy = g.P.Policy.preference c.args.policy.now in
-    let hit = some_found k g.met.L.Units.keeps was.slots.ground (holding was) (kept_of k was c.told.ensures) c.args.request policy c.records.result.now c.records.ensures c.find-claim.result c.find-claim.ensures free c.in-Some-find-claim.found c.in-Some-find-claim.is in
+    let hit = some_found k g.met.L.Units.keeps was.slots.floor (holding was) (kept_of k was c.told.ensures) c.args.request policy c.records.result.now c.records.ensures c.find_claim.result c.find_claim.ensures free c.in-Some-find_claim.found c.in-Some-find_claim.is in
     let did = c.enter.ensures in
     let kept = kept_of k was c.told.ensures in
-    let x = booked c.args.request c.in-Some-find-claim.found.rectangle.start c.in-Some-find-claim.found.claim in
-    record { answer = ap (λ v. Ok v) did.answer ∙ hit.1; board = did.board ∙ hit.2; takes = subst (λ b. Takes k b (Ok c.enter.result)) (sym did.board) (subst (λ (v : Grant g.row.L.Denot). Takes k (with_booking k (holding was) x) (Ok v)) (sym did.answer) (granted_taken k was.slots.ground (holding was) kept x)); rest = did.rest; lent = did.lent }
+    let x = booked c.args.request c.in-Some-find_claim.found.rectangle.start c.in-Some-find_claim.found.claim in
+    record { answer = ap (λ v. Ok v) did.answer ∙ hit.1; board = did.board ∙ hit.2; takes = subst (λ b. Takes k b (Ok c.enter.result)) (sym did.board) (subst (λ (v : Grant g.row.L.Denot). Takes k (with_booking k (holding was) x) (Ok v)) (sym did.answer) (granted_taken k was.slots.floor (holding was) kept x)); rest = did.rest; lent = did.lent }

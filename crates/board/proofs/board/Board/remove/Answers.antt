@@ -8,21 +8,21 @@ use Rattle.board.proofs.Told.{same_behind}
 use Rattle.board.proofs.Unbooked.{unbooked}
 use Rattle.board.proofs.board.Board.remove.Goals as goal
 
-pub witness-of-requires : goal.witness-of-requires
-witness-of-requires g c =
+pub witness_of-requires : goal.witness_of-requires
+witness_of-requires g c =
     let was = c.args.self.now in
-    let gone = c.take-out.ensures in
+    let gone = c.take_out.ensures in
     let did = c.change.ensures in
-    let now = unbooked g.L.Units.kind was c.args.number c.args.place c.requires c.blank-row-blank.result c.blank-row-blank.ensures was.slots.ground refl c.take-out.new.self gone.rows gone.count gone.room g.met.L.Units.keeps g.row.L-Value.alike g.met.L.Value.told c.told.ensures c.get-row.result c.get-row.ensures c.change.result c.change.new.self did.ground did.answer did.list in
+    let now = unbooked g.L.Units.kind was c.args.number c.args.place c.requires c.blank_row-blank.result c.blank_row-blank.ensures was.slots.floor refl c.take_out.new.self gone.rows gone.count gone.room g.met.L.Units.keeps g.row.L-Value.alike g.met.L.Value.told c.told.ensures c.get-row.result c.get-row.ensures c.change.result c.change.new.self did.floor did.answer did.list in
     (in_use _ _ _ _ now.rows_laid, (in_use _ _ _ _ now.slots_laid, now.kept))
 
 pub invariant-of-self : goal.invariant-of-self
 invariant-of-self g c =
     let was = c.args.self.now in
-    let gone = c.take-out.ensures in
+    let gone = c.take_out.ensures in
     let did = c.change.ensures in
-    let now = unbooked g.L.Units.kind was c.args.number c.args.place c.requires c.blank-row-blank.result c.blank-row-blank.ensures was.slots.ground refl c.take-out.new.self gone.rows gone.count gone.room g.met.L.Units.keeps g.row.L-Value.alike g.met.L.Value.told c.told.ensures c.get-row.result c.get-row.ensures c.change.result c.change.new.self did.ground did.answer did.list in
-    let told = c.witness-of.ensures in (
+    let now = unbooked g.L.Units.kind was c.args.number c.args.place c.requires c.blank_row-blank.result c.blank_row-blank.ensures was.slots.floor refl c.take_out.new.self gone.rows gone.count gone.room g.met.L.Units.keeps g.row.L-Value.alike g.met.L.Value.told c.told.ensures c.get-row.result c.get-row.ensures c.change.result c.change.new.self did.floor did.answer did.list in
+    let told = c.witness_of.ensures in (
       now.rows_laid.used_fits,
       (
         now.rows_laid.room_fits,
@@ -48,10 +48,10 @@ invariant-of-self g c =
 pub returns : goal.returns
 returns g c =
     let was = c.args.self.now in
-    let gone = c.take-out.ensures in
+    let gone = c.take_out.ensures in
     let did = c.change.ensures in
     let row = c.get-row.result in
-    let now = unbooked g.L.Units.kind was c.args.number c.args.place c.requires c.blank-row-blank.result c.blank-row-blank.ensures was.slots.ground refl c.take-out.new.self gone.rows gone.count gone.room g.met.L.Units.keeps g.row.L-Value.alike g.met.L.Value.told c.told.ensures row c.get-row.ensures c.change.result c.change.new.self did.ground did.answer did.list in
+    let now = unbooked g.L.Units.kind was c.args.number c.args.place c.requires c.blank_row-blank.result c.blank_row-blank.ensures was.slots.floor refl c.take_out.new.self gone.rows gone.count gone.room g.met.L.Units.keeps g.row.L-Value.alike g.met.L.Value.told c.told.ensures row c.get-row.ensures c.change.result c.change.new.self did.floor did.answer did.list in
     record {
       board = λ r e. now.holding-is ∙ ap (without_row g.L.Units.kind (holding was) c.args.number) (some_is row r (sym (read_is c.args.number c.args.place (holding was).book.rows row c.requires c.get-row.ensures) ∙ e));
       rest = same_behind _ _ _ _ now.rows_behind now.slots_behind;

@@ -7,8 +7,8 @@ use Rattle.board.proofs.Restated.{read_is, restated}
 use Rattle.board.proofs.Told.{same_behind}
 use Rattle.board.proofs.board.Board.set_state.Goals as goal
 
-pub witness-of-requires : goal.witness-of-requires
-witness-of-requires g c =
+pub witness_of-requires : goal.witness_of-requires
+witness_of-requires g c =
     let did = c.replace.ensures in
     let now = restated g.L.Units.kind c.args.self.now c.args.number c.args.place c.requires.0 c.get-row.result c.get-row.ensures c.args.state c.replace.new.self did.rows did.count did.room g.met.L.Units.keeps c.told.ensures c.requires.1 in
     (in_use _ _ _ _ now.rows_laid, (in_use _ _ _ _ now.slots_laid, now.kept))
@@ -17,7 +17,7 @@ pub invariant-of-self : goal.invariant-of-self
 invariant-of-self g c =
     let did = c.replace.ensures in
     let now = restated g.L.Units.kind c.args.self.now c.args.number c.args.place c.requires.0 c.get-row.result c.get-row.ensures c.args.state c.replace.new.self did.rows did.count did.room g.met.L.Units.keeps c.told.ensures c.requires.1 in
-    let told = c.witness-of.ensures in (
+    let told = c.witness_of.ensures in (
       now.rows_laid.used_fits,
       (
         now.rows_laid.room_fits,

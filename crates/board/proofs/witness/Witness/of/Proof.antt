@@ -93,7 +93,7 @@ module _ (Y : RattleType) (L : Laws Y) (K : IsCopy Y) (g : Ghosts Y.Denot) (d : 
       heard ! φ (λ e.
       enter ! 𝓣.C 𝓣.Λ (fn' Y g d h f) (cs ++ (hs ++ (ns ++ (ms ++ (ls ++ (vs ++ (ws ++ []))))))) _ $ alloc_all ! (λ l. pass_all ! refl (gc, (gh, (gn, (gm, (gl, (gv, (gw, tt))))))) $
       sets ! (agg ! (no_more !)) refl (tt, tt) $ sets ! (agg ! (no_more !)) refl (tt, tt) $ sets ! (agg ! (and_then ! (get ! refl) (and_then ! (get ! refl) (no_more !)))) refl (tt, (tt, (tt, tt))) $ returns ! (look_at ! 0 refl) $ free_all ! refl $
-      let r : (T.the_row R g h).Denot = record { of_rows = record {}; of_slots = record {}; capacity = a.0; horizon = a.1.0; next = a.1.1.0; room = a.1.1.1.0; ground = a.1.1.1.1.0; rows = a.1.1.1.1.1.0.now; slots = a.1.1.1.1.1.1.0.now } in
+      let r : (T.the_row R g h).Denot = record { of_rows = record {}; of_slots = record {}; capacity = a.0; horizon = a.1.0; next = a.1.1.0; room = a.1.1.1.0; floor = a.1.1.1.1.0; rows = a.1.1.1.1.1.0.now; slots = a.1.1.1.1.1.1.0.now } in
       let V : Val = vstruct (vcons (vstruct vnil) (vcons (vstruct vnil) vnil)) in
       use0 𝓛 (‵ ((T.the_row R g h).own_val r (V ∷ []))) (makes_shadow 𝓛 ((T.the_row R g h).own_val r (V ∷ [])) ((λ _. (tt, ((λ _. (tt, tt)), ((λ _. (tt, tt)), tt)))), (λ _. tt)) (((vstruct vnil ∷ [], (vstruct vnil ∷ [], tt)), (refl, ((tt, (refl, tt)), ((tt, (refl, tt)), tt)))), (e, tt))) $ keep ! (0 ∷ 1 ∷ []) $
       suffices ! _ (ends_at 𝓛 (ended Y g d h f) (stayed Y g d h f) held ((κs, qs, bounds, a, (cs, (hs, (ns, (ms, (ls, (vs, (ws, tt)))))))), u) V r (tt, (tt, (tt, (tt, (tt, (tt, (tt, tt))))))) (tt, (tt, (tt, (tt, (tt, (tt, (tt, tt)))))))) $ says ! (refl, refl, refl, refl, refl, refl, refl) $

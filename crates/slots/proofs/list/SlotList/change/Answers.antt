@@ -23,7 +23,7 @@ returns-then-self g c =
       ];
       list = kept_tidy was;
       room = refl;
-      ground = refl;
+      floor = refl;
       len = refl;
       lent = refl;
     }
@@ -38,12 +38,12 @@ returns-then-lacks-self g c =
     let ends = c.ends-ends.result in
     let found = c.ends-ends.ensures in
     let long = length-take-le was.used was.slots.now (omega (arith, c.if-self.false, c.if-self-2.false)) in
-    let more : was.room < wants = omega (arith, long, c.if-lacks-self.true, c.lacks.ensures, start_lacks from until c.if-from-until.false was.ground xs ends found.start found.end, end_lacks from until c.if-from-until.false was.ground xs ends found.start found.end) in
+    let more : was.room < wants = omega (arith, long, c.if-lacks-self.true, c.lacks.ensures, start_lacks from until c.if-from-until.false was.floor xs ends found.start found.end, end_lacks from until c.if-from-until.false was.floor xs ends found.start found.end) in
     record {
       answer = λ t. sym (and_right (ltb from until) (leb wants was.room) (lt-leb wants was.room more));
       list = kept_tidy was;
       room = refl;
-      ground = refl;
+      floor = refl;
       len = refl;
       lent = refl;
     }
@@ -60,8 +60,8 @@ returns g c =
     let span = c.if-from-until.false in
     let long = length-take-le was.used was.slots.now (omega (arith, c.if-self.false, c.if-self-2.false)) in
     let fits : length (put_of ends.start) + length (put_of ends.end) ≤ was.room - was.used = omega (arith, c.if-lacks-self.false, c.lacks.ensures) in
-    let room : wants ≤ was.room = omega (arith, long, fits, c.if-self.false, start_lacks from until span was.ground xs ends found.start found.end, end_lacks from until span was.ground xs ends found.start found.end) in
-    let same = g.V-as-Value.alike in
+    let room : wants ≤ was.room = omega (arith, long, fits, c.if-self.false, start_lacks from until span was.floor xs ends found.start found.end, end_lacks from until span was.floor xs ends found.start found.end) in
+    let same = g.V.Value.alike in
     let told = g.met.V.Value.told in
     let f = g.C.Change.changed c.args.how.now in
     let parted = c.part-parted.ensures in
@@ -72,10 +72,10 @@ returns g c =
         used_is = left_new same told f from until span was t ends found.start found.end fits c.part-parted.new.slots c.gather-left.new.slots c.part-parted.result c.gather-left.result parted.used parted.slots over.count over.front over.rest over.fewer;
         room_is = refl;
         ground_is = refl;
-        memory_is = c.fill-from.ensures ∙ memory_new same told f from until span was t ends found.start found.end fits c.part-parted.new.slots c.gather-left.new.slots c.part-parted.result c.gather-left.result parted.used parted.slots over.count over.front over.rest over.fewer;
+        memory_is = c.fill_from.ensures ∙ memory_new same told f from until span was t ends found.start found.end fits c.part-parted.new.slots c.gather-left.new.slots c.part-parted.result c.gather-left.result parted.used parted.slots over.count over.front over.rest over.fewer;
       };
       room = refl;
-      ground = refl;
-      len = omega (arith, c.fill-from.auto.xs, c.gather-left.auto.slots, c.part-parted.auto.slots);
+      floor = refl;
+      len = omega (arith, c.fill_from.auto.xs, c.gather-left.auto.slots, c.part-parted.auto.slots);
       lent = refl;
     }

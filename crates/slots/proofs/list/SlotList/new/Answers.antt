@@ -7,14 +7,14 @@ use Rattle.slots.proofs.list.SlotList.new.Goals as goal
 pub returns : goal.returns
 returns g c =
     let own = c.min-own.result in
-    let blank = slot_of 0 c.args.ground in
+    let blank = slot_of 0 c.args.floor in
     let memory = c.args.slots.now in
     let all : own ≡ own - 0 = omega arith in
     let sum : 0 + own ≡ own = omega arith in
     record {
       used = refl;
       room = c.min-own.ensures;
-      ground = refl;
-      slots = c.fill-from.ensures ∙ paste_all memory 0 (replicate own blank) own (sym (length-replicate own blank)) ∙ ap₂ (λ (n k : ℕ). replicate n blank ++ drop k memory) all sum;
+      floor = refl;
+      slots = c.fill_from.ensures ∙ paste_all memory 0 (replicate own blank) own (sym (length-replicate own blank)) ∙ ap₂ (λ (n k : ℕ). replicate n blank ++ drop k memory) all sum;
       lent = refl;
     }

@@ -1,6 +1,0 @@
-use Rattle.std.proofs.Common.{◌∙◌}
-use Rattle.board.proofs.FileWritten.{file_written}
-use Rattle.board.proofs.save.write_file.Goals as goal
-
-pub returns : goal.returns
-returns g c = file_written g.L.Filed.filing c.args.header c.args.rows.now c.args.out.now c.copy-from-slice.new.self (c.copy-from-slice.ensures.after ∙ c.header_bytes.ensures) _ c.write-rows.ensures
