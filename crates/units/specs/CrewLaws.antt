@@ -7,7 +7,7 @@ use Rattle.std.proofs.lemmas.Nat.{or_comm}
 use Rattle.std.specs.Int.Count.{ones-ones}
 use Rattle.std.proofs.Math.Pow.{ones_lt}
 use Rattle.std.proofs.lemmas.Bool.{eqb-true, eq-eqb, le-leb, lt-leb, and_parts, and_from}
-use Rattle.std.proofs.lemmas.Bool.Decides.{same_from_decides, nat_tests}
+use Rattle.std.proofs.lemmas.Bool.Decides.{same_from_decides}
 use Rattle.units.specs.Kinds.{Kind, Laws}
 use Rattle.units.specs.Sets.{bit, without, lowest}
 use Rattle.units.specs.Crews.{of_mask, mechanics, idle, crew_joined, crew_lift, crew_free, crew_pick, crew_kind}
