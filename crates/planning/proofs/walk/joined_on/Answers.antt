@@ -16,7 +16,7 @@ loop-slot-preserved g c =
     let i = c.loop-slot.slot-index in
     let x = c.slot-item.result in
     let over = c.loop-slot.over in
-    ap (λ v. covered k s d v (drop (i + 1) xs)) c.joined_over.ensures
+    ap (λ v. covered k s d v (drop (i + 1) xs)) c.joined-over.ensures
     ∙ sym (within k s d over x (drop (i + 1) xs) (omega arith))
     ∙ sym (next (covered k s d over) xs i x c.loop-slot-test.true c.slot-item.is)
     ∙ c.loop-slot.invariant

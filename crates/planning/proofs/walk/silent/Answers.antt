@@ -10,4 +10,4 @@ returns g c =
     let over = c.args.over in
     let all = k.joined over c.args.load in
     let told = g.met.L.Value.told all over in
-    c.same.ensures ∙ ap (λ v. g.row.L-Value.alike v over) c.joined.ensures ∙ one_answer _ _ told (laws.same_is all over, λ e. subst (λ v. So (k.same all v)) e (laws.same_self all))
+    c.same.ensures ∙ ap (λ v. g.L.Value.alike v over) c.joined.ensures ∙ one_answer _ _ told (laws.same_is all over, λ e. subst (λ v. So (k.same all v)) e (laws.same_self all))
