@@ -1,11 +1,11 @@
 -- What a move is answered, and what it leaves, once its row is known. Assumes nothing.
-use Rattle.std.proofs.Common.{◌≡◌, ℕ, Bool, true, false, Some, Ok, Err, sym, refl, ap, ◌∙◌, arith}
+use Rattle.std.proofs.Common.{◌≡◌, ℕ, true, false, Some, Ok, Err, sym, refl, ap, ◌∙◌, arith}
 use Rattle.units.specs.Kinds.{Kind}
 use Rattle.bookings.specs.Rows.{numbered}
 use Rattle.bookings.specs.Table.{Fate, becomes, leaves, barred, fate}
 use Rattle.bookings.specs.declared.event.Event.{Event}
 use Rattle.bookings.specs.declared.row.Row.{Row}
-use Rattle.board.specs.Calls.{Holding, Answer, move, answer, after, wrong_state, fate_answer, fate_after, move_answer, move_after}
+use Rattle.board.specs.Calls.{Holding, move, answer, after, wrong_state, fate_answer, fate_after, move_answer, move_after}
 use Rattle.board.specs.Results.{done_result, done_by}
 
 module _ {L : Type 0} (k : Kind L) (board : Holding L) (event : Event) (n : ℕ) (r : Row L) (there : numbered n board.book.rows ≡ Some r) where

@@ -22,7 +22,7 @@ use Rattle.board.proofs.Checks.{unchecked}
 use Rattle.board.proofs.Keeps.{best, given_in_time, given_kept, room_to_enter}
 use Rattle.board.proofs.Lent.{now_laid, now_used, now_behind, pushed}
 use Rattle.board.proofs.Outcomes.{Outcome}
-use Rattle.board.proofs.Reslotted.{slots_ground, slots_room, slots_now_laid, slots_now, slots_behind}
+use Rattle.board.proofs.Reslotted.{slots_floor, slots_room, slots_now_laid, slots_now, slots_behind}
 use Rattle.board.proofs.Told.{same_holding, Tells, kept_of, rows_laid}
 
 module _ {L : Type 0} (k : Kind L) (lawful : Lawful k) (was : Board L) (tells : Tells k was) (request : Request) (policy : Preference) (free : hold_check (holding was).book request ≡ None) (x : Booking L) (found_is : found_on k (holding was) request policy ≡ Some x) where
@@ -73,7 +73,7 @@ module _ {L : Type 0} (k : Kind L) (lawful : Lawful k) (was : Board L) (tells : 
       pub entered_now : Outcome k was is slots (was.next + 1) (with_booking k (holding was) x)
       entered_now =
           let f = k.put was.capacity x.claim in
-          let floor = slots_ground k lawful same told was tells f x.start x.end span enough r slots answer list in
+          let floor = slots_floor k lawful same told was tells f x.start x.end span enough r slots answer list in
           let after = same_holding was.capacity was.horizon (was.next + 1) (suc was.next) is.room was.rows.room (take is.count is.rows.now) (live ++ (row ∷ [])) (take slots.used slots.slots.now) _ room_is (add-one was.next)
           (now_used empty empty refl was.rows.room was.rows.rows.now (live ++ (row ∷ [])) is.rows.now is.count fits was.rows_fit memory many)
           (slots_now k lawful same told was tells f x.start x.end span enough r slots answer list) in

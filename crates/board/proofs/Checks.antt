@@ -1,5 +1,5 @@
 -- What it says that no check applies. Assumes nothing.
-use Rattle.std.proofs.Common.{◌≡◌, ℕ, ◌+◌, ◌*◌, ◌<◌, ◌≤◌, Bool, true, false, cond, not, ◌||◌, eqb, ltb, leb, List, [], ◌∷◌, length, Some, None, sym, refl, ap, ◌∙◌, arith}
+use Rattle.std.proofs.Common.{◌≡◌, ℕ, ◌+◌, ◌*◌, ◌≤◌, Bool, true, false, cond, not, ◌||◌, eqb, ltb, leb, List, [], ◌∷◌, length, Some, None, sym, refl, arith}
 use Rattle.std.proofs.lemmas.Bool.{ltb-false, leb-true, leb-false, eqb-false, or_parts}
 use Rattle.units.specs.Kinds.{Kind}
 use Rattle.planning.specs.declared.request.Request.{Request}

@@ -1,5 +1,5 @@
 -- Every call keeps what a board keeps, and finds room for its records. Assumes nothing.
-use Rattle.std.proofs.Common.{◌≡◌, ℕ, zero, suc, ◌+◌, ◌*◌, ◌<◌, ◌≤◌, Bool, true, false, cond, eqb, ◌⊎◌, List, [], ◌∷◌, ◌++◌, length, Some, None, Option, sym, refl, ap, ◌∙◌, subst, inl, inr, arith, length-append}
+use Rattle.std.proofs.Common.{◌≡◌, ℕ, ◌+◌, ◌*◌, ◌<◌, ◌≤◌, Bool, true, false, cond, eqb, List, [], ◌∷◌, ◌++◌, length, Some, None, Option, sym, refl, ap, ◌∙◌, subst, inl, inr, arith, length-append}
 use mathlib.Core.Path.{fun_ext}
 use Rattle.std.proofs.lemmas.List.{length-map}
 use Rattle.slots.specs.Lists.{In}
@@ -13,7 +13,7 @@ use Rattle.planning.specs.Policies.{Preference, found}
 use Rattle.planning.specs.declared.request.Request.{Request}
 use Rattle.bookings.specs.Bookings.{load_at, Sound, Within, slot_list}
 use Rattle.bookings.specs.Grants.{booking_of}
-use Rattle.bookings.specs.Rows.{row_of, bookings, numbered, replaced, with_rows}
+use Rattle.bookings.specs.Rows.{row_of, bookings, numbered, replaced}
 use Rattle.bookings.specs.declared.booking.Booking.{Booking}
 use Rattle.bookings.specs.declared.refusal.Refusal.{Refusal}
 use Rattle.bookings.specs.declared.row.Row.{Row}
@@ -23,10 +23,10 @@ use Rattle.bookings.proofs.Boards.{addition_sound, removal_sound}
 use Rattle.bookings.proofs.Few.{slots_few, ends, length_ends, at_an_end}
 use Rattle.bookings.proofs.Found.{some_none, some_is, Right, found_right}
 use Rattle.bookings.proofs.Lists.{slots_right, slots_only, slots_after_adding, slots_after_removing}
-use Rattle.bookings.proofs.Numbers.{at_the_end, bookings_more, within_reordered, taken_out, kept_bookings, numbers_more, numbers_without, numbers_with, fewer, as_many}
+use Rattle.bookings.proofs.Numbers.{at_the_end, bookings_more, taken_out, kept_bookings, numbers_more, numbers_without, numbers_with, fewer, as_many}
 use Rattle.board.specs.Calls.{Holding, set_up_check, opened, made, hold_check, Askable, found_on, with_booking, with_state, without_row}
-use Rattle.board.specs.Keeping.{Proper, AllProper, Keeping, Kept}
-use Rattle.board.proofs.Checks.{unchecked, Allowed, allowed}
+use Rattle.board.specs.Keeping.{Proper, AllProper, Kept}
+use Rattle.board.proofs.Checks.{unchecked, allowed}
 
 -- ROWS THAT ARE PROPER
 
@@ -86,7 +86,7 @@ module _ {L : Type 0} (k : Kind L) (lawful : Lawful k) (floor : L) where
 
   pub empty_kept : (c h room : ℕ) → floor ≡ k.nothing → c ≤ k.most → h ≤ 1048576 → (1 ≤ c → 1 ≤ h) → room ≤ 256 → Kept k floor (opened c h room)
   empty_kept c h room is units minutes some rows = record {
-    ground_is = is;
+    floor_is = is;
     capacity_fits = units;
     horizon_fits = minutes;
     horizon_open = some;
@@ -168,7 +168,7 @@ module _ {L : Type 0} (k : Kind L) (lawful : Lawful k) (floor : L) where
           }) in
           let order = at_the_end bs x in
           record {
-            ground_is = kept.ground_is;
+            floor_is = kept.floor_is;
             capacity_fits = kept.capacity_fits;
             horizon_fits = kept.horizon_fits;
             horizon_open = kept.horizon_open;
@@ -193,7 +193,7 @@ module _ {L : Type 0} (k : Kind L) (lawful : Lawful k) (floor : L) where
           let was = proper_one k h n board.book.rows r kept.proper e in
           let same = kept_bookings n board.book.rows r v refl e in
           record {
-            ground_is = kept.ground_is;
+            floor_is = kept.floor_is;
             capacity_fits = kept.capacity_fits;
             horizon_fits = kept.horizon_fits;
             horizon_open = kept.horizon_open;
@@ -212,7 +212,7 @@ module _ {L : Type 0} (k : Kind L) (lawful : Lawful k) (floor : L) where
           let out = taken_out n board.book.rows r e in
           let all = proper_without k h n board.book.rows kept.proper in
           record {
-            ground_is = kept.ground_is;
+            floor_is = kept.floor_is;
             capacity_fits = kept.capacity_fits;
             horizon_fits = kept.horizon_fits;
             horizon_open = kept.horizon_open;

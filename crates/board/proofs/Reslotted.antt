@@ -1,5 +1,5 @@
 -- A board's slot list after a change over a span for which there is room. Assumes nothing.
-use Rattle.std.proofs.Common.{◌≡◌, ℕ, ◌+◌, ◌<◌, ◌≤◌, Bool, true, cond, ltb, leb, List, length, take, drop, Decides, sym, refl, ap, ◌∙◌, subst, ap₂, arith}
+use Rattle.std.proofs.Common.{◌≡◌, ℕ, ◌+◌, ◌<◌, ◌≤◌, Bool, true, cond, ltb, leb, List, length, take, drop, Decides, sym, ap, ◌∙◌, subst, arith}
 use Rattle.std.proofs.lemmas.Bool.{le-leb, lt-ltb, and_from}
 use Rattle.slots.specs.Memory.{Laid}
 use Rattle.slots.specs.Stepped.{slot_of, Canonical, edited}
@@ -27,7 +27,7 @@ module _ {L : Type 0} (k : Kind L) (lawful : Lawful k) (same : L → L → Bool)
   kept = kept_of k was tells
 
   canonical : Canonical 0 was.slots.floor (records was.slots)
-  canonical = subst (λ v. Canonical 0 v (holding was).slots) (sym kept.ground_is) (right k lawful was.slots.floor (holding was) kept).0
+  canonical = subst (λ v. Canonical 0 v (holding was).slots) (sym kept.floor_is) (right k lawful was.slots.floor (holding was) kept).0
 
   tidy : Tidy was.slots
   tidy = record { laid_out = slots_laid was; canonical = canonical }
@@ -44,20 +44,20 @@ module _ {L : Type 0} (k : Kind L) (lawful : Lawful k) (same : L → L → Bool)
   fits : length new ≤ was.slots.room
   fits = omega (arith, edited_short same told f from until was.slots.floor (records was.slots) span (canonical_ascending 0 was.slots.floor (records was.slots) canonical), enough)
 
-  pub slots_ground : is.floor ≡ was.slots.floor
-  slots_ground = rewritten.ground_is
+  pub slots_floor : is.floor ≡ was.slots.floor
+  slots_floor = rewritten.floor_is
 
   pub slots_room : is.room ≡ was.slots.room
   slots_room = rewritten.room_is
 
   pub slots_now_laid : Laid (slot_of 0 is.floor) is.used is.room is.slots.now
-  slots_now_laid = subst (λ (n : ℕ). Laid (slot_of 0 is.floor) is.used n is.slots.now) (sym slots_room) (now_laid (slot_of 0 was.slots.floor) (slot_of 0 is.floor) (ap (slot_of 0) slots_ground) was.slots.room was.slots.slots.now new is.slots.now is.used fits was.slots_fit rewritten.memory_is rewritten.used_is)
+  slots_now_laid = subst (λ (n : ℕ). Laid (slot_of 0 is.floor) is.used n is.slots.now) (sym slots_room) (now_laid (slot_of 0 was.slots.floor) (slot_of 0 is.floor) (ap (slot_of 0) slots_floor) was.slots.room was.slots.slots.now new is.slots.now is.used fits was.slots_fit rewritten.memory_is rewritten.used_is)
 
   pub slots_now : take is.used is.slots.now ≡ edited k.same f from until k.nothing (holding was).slots
   slots_now =
-      now_used (slot_of 0 was.slots.floor) (slot_of 0 is.floor) (ap (slot_of 0) slots_ground) was.slots.room was.slots.slots.now new is.slots.now is.used fits was.slots_fit rewritten.memory_is rewritten.used_is
+      now_used (slot_of 0 was.slots.floor) (slot_of 0 is.floor) (ap (slot_of 0) slots_floor) was.slots.room was.slots.slots.now new is.slots.now is.used fits was.slots_fit rewritten.memory_is rewritten.used_is
       ∙ edited_by_any same told f from until was.slots.floor (records was.slots) k.same (same_told k was.capacity (laws k lawful was.slots.floor (holding was) kept))
-      ∙ ap (λ v. edited k.same f from until v (holding was).slots) kept.ground_is
+      ∙ ap (λ v. edited k.same f from until v (holding was).slots) kept.floor_is
 
   pub slots_behind : drop is.room is.slots.now ≡ drop was.slots.room was.slots.slots.now
-  slots_behind = ap (λ (n : ℕ). drop n is.slots.now) slots_room ∙ now_behind (slot_of 0 was.slots.floor) (slot_of 0 is.floor) (ap (slot_of 0) slots_ground) was.slots.room was.slots.slots.now new is.slots.now is.used fits was.slots_fit rewritten.memory_is rewritten.used_is
+  slots_behind = ap (λ (n : ℕ). drop n is.slots.now) slots_room ∙ now_behind (slot_of 0 was.slots.floor) (slot_of 0 is.floor) (ap (slot_of 0) slots_floor) was.slots.room was.slots.slots.now new is.slots.now is.used fits was.slots_fit rewritten.memory_is rewritten.used_is

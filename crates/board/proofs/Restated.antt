@@ -1,5 +1,5 @@
 -- A board with one row's state changed. Assumes nothing.
-use Rattle.std.proofs.Common.{◌≡◌, ℕ, ◌+◌, ◌*◌, ◌<◌, ◌≤◌, List, [], ◌∷◌, ◌++◌, length, get_or, take, drop, set, Some, sym, refl, ap, ◌∙◌, subst, ap₂, arith}
+use Rattle.std.proofs.Common.{◌≡◌, ℕ, ◌*◌, ◌<◌, ◌≤◌, List, [], ◌∷◌, length, get_or, take, drop, set, Some, sym, refl, ap, ◌∙◌, subst, arith}
 use Rattle.std.proofs.lemmas.List.{length-take, length-drop, length-append}
 use Rattle.slots.specs.Memory.{Laid, laid}
 use Rattle.units.specs.Kinds.{Kind, Lawful}
@@ -11,7 +11,7 @@ use Rattle.bookings.proofs.Found.{some_is}
 use Rattle.board.specs.Calls.{with_state}
 use Rattle.board.specs.Keeping.{Kept}
 use Rattle.board.specs.Places.{Placed}
-use Rattle.board.specs.Views.{holding, behind}
+use Rattle.board.specs.Views.{holding}
 use Rattle.board.specs.declared.board.Board.{Board}
 use Rattle.board.specs.declared.rows.RowList.{RowList}
 use Rattle.board.proofs.Keeps.{state_kept}

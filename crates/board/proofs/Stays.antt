@@ -1,10 +1,8 @@
 -- Granted bookings stay put, by the cases of the calls. Assumes nothing.
 use Rattle.std.proofs.Common.{◌≡◌, ℕ, Bool, true, false, cond, eqb, ◌⊎◌, List, [], ◌∷◌, ◌++◌, Some, None, Option, sym, refl, ap, ◌∙◌, inl, inr}
-use Rattle.std.proofs.lemmas.Bool.{eqb-true, eqb-false}
+use Rattle.std.proofs.lemmas.Bool.{eqb-true}
 use Rattle.slots.specs.Lists.{In}
 use Rattle.units.specs.Kinds.{Kind}
-use Rattle.planning.specs.Policies.{Preference}
-use Rattle.planning.specs.declared.request.Request.{Request}
 use Rattle.bookings.specs.Rows.{row_of, numbered, replaced}
 use Rattle.bookings.specs.Table.{Fate, becomes, leaves, barred, fate}
 use Rattle.bookings.specs.declared.booking.Booking.{Booking}

@@ -39,7 +39,7 @@ module _ {L : Type 0} where
     Tells is = Keeping k is.witness.capacity is.witness.horizon is.witness.next is.witness.room is.witness.floor is.witness.rows is.witness.slots
 
     pub kept_of : (is : Board L) → Tells is → Kept k is.slots.floor (holding is)
-    kept_of is told = moved _ _ _ _ _ _ _ is.slots.floor (holding is) told is.capacity_same is.horizon_same is.next_same is.room_same is.ground_same is.rows_same is.slots_same
+    kept_of is told = moved _ _ _ _ _ _ _ is.slots.floor (holding is) told is.capacity_same is.horizon_same is.next_same is.room_same is.floor_same is.rows_same is.slots_same
 
   pub rows_laid : (is : Board L) → Laid (blank_row is.slots.floor) is.rows.count is.rows.room is.rows.rows.now
   rows_laid is = record { used_fits = is.rows_used; room_fits = is.rows_fit; blank_behind = is.rows_blank }

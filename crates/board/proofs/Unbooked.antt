@@ -1,5 +1,5 @@
 -- A board with one row taken out. Assumes nothing.
-use Rattle.std.proofs.Common.{◌≡◌, ℕ, ◌+◌, ◌-◌, ◌*◌, ◌<◌, ◌≤◌, Bool, cond, List, [], ◌++◌, length, get_or, take, drop, Some, Decides, sym, refl, ap, ◌∙◌, subst, arith}
+use Rattle.std.proofs.Common.{◌≡◌, ℕ, ◌+◌, ◌-◌, ◌*◌, ◌<◌, ◌≤◌, Bool, cond, List, [], length, get_or, take, drop, Some, Decides, sym, refl, ap, ◌∙◌, subst, arith}
 use Rattle.std.proofs.lemmas.List.{length-take, length-drop, length-append}
 use Rattle.slots.specs.Memory.{Laid, laid}
 use Rattle.slots.specs.SlotLists.{records, Tidy, changeable, Rewritten}
@@ -19,11 +19,11 @@ use Rattle.board.specs.declared.rows.RowList.{RowList}
 use Rattle.board.proofs.Keeps.{proper_one, room_to_remove, gone_kept}
 use Rattle.board.proofs.Lent.{now_laid, now_used, now_behind, closes_up}
 use Rattle.board.proofs.Outcomes.{Outcome}
-use Rattle.board.proofs.Reslotted.{slots_ground, slots_room, slots_now_laid, slots_now, slots_behind}
+use Rattle.board.proofs.Reslotted.{slots_floor, slots_room, slots_now_laid, slots_now, slots_behind}
 use Rattle.board.proofs.Restated.{read_is}
 use Rattle.board.proofs.Told.{same_holding, Tells, kept_of, rows_laid}
 
-module _ {L : Type 0} (k : Kind L) (was : Board L) (n place : ℕ) (placed : Placed n (holding was).book.rows (Some place)) (blank : Row L) (blank-is : blank ≡ blank_row was.slots.floor) (floor : L) (ground_is : floor ≡ was.slots.floor)
+module _ {L : Type 0} (k : Kind L) (was : Board L) (n place : ℕ) (placed : Placed n (holding was).book.rows (Some place)) (blank : Row L) (blank-is : blank ≡ blank_row was.slots.floor) (floor : L) (floor_is : floor ≡ was.slots.floor)
     (is : RowList L) (closed_is : is.rows.now ≡ closed place was.rows.count blank was.rows.rows.now) (count-is : is.count ≡ was.rows.count - 1) (room_is : is.room ≡ was.rows.room) where
   abbrev live : List (Row L)
   live = (holding was).book.rows
@@ -52,7 +52,7 @@ module _ {L : Type 0} (k : Kind L) (was : Board L) (n place : ℕ) (placed : Pla
   fits = let a = was.rows_used in omega (arith, many, count-is)
 
   gone_laid : Laid (blank_row floor) is.count is.room is.rows.now
-  gone_laid = subst (λ (r : ℕ). Laid (blank_row floor) is.count r is.rows.now) (sym room_is) (now_laid empty (blank_row floor) (ap blank_row ground_is) was.rows.room was.rows.rows.now new is.rows.now is.count fits was.rows_fit memory many)
+  gone_laid = subst (λ (r : ℕ). Laid (blank_row floor) is.count r is.rows.now) (sym room_is) (now_laid empty (blank_row floor) (ap blank_row floor_is) was.rows.room was.rows.rows.now new is.rows.now is.count fits was.rows_fit memory many)
 
   gone_used : take is.count is.rows.now ≡ new
   gone_used = now_used empty empty refl was.rows.room was.rows.rows.now new is.rows.now is.count fits was.rows_fit memory many
@@ -82,7 +82,7 @@ module _ {L : Type 0} (k : Kind L) (was : Board L) (n place : ℕ) (placed : Pla
           slots_laid = slots_now_laid k lawful same told was tells f row.booking.start row.booking.end span enough r slots answer list;
           rooms = slots_room k lawful same told was tells f row.booking.start row.booking.end span enough r slots answer list ∙ was.slots_room ∙ ap (λ (m : ℕ). 2 * m) (sym room_is);
           holding_is = after;
-          kept = subst (Kept k slots.floor) (sym after) (subst (λ v. Kept k v (without_row k (holding was) n row)) (sym (slots_ground k lawful same told was tells f row.booking.start row.booking.end span enough r slots answer list)) (gone_kept k lawful was.slots.floor (holding was) (kept_of k was tells) n row numbered_is));
+          kept = subst (Kept k slots.floor) (sym after) (subst (λ v. Kept k v (without_row k (holding was) n row)) (sym (slots_floor k lawful same told was tells f row.booking.start row.booking.end span enough r slots answer list)) (gone_kept k lawful was.slots.floor (holding was) (kept_of k was tells) n row numbered_is));
           rows_behind = gone_behind;
           slots_behind = slots_behind k lawful same told was tells f row.booking.start row.booking.end span enough r slots answer list;
         }

@@ -21,7 +21,7 @@ AllProper k horizon (r ∷ rows) = Proper k horizon r × AllProper k horizon row
 
 -- the numbers lie in their ranges; the rows are proper, sound, no more than there is room for, and in the order of their numbers; and the slot list is theirs
 pub record Keeping {L : Type 0} (k : Kind L) (capacity horizon next room : ℕ) (floor : L) (rows : List (Row L)) (slots : List (Slot L)) : Type 0 where
-  pub ground_is : floor ≡ k.nothing
+  pub floor_is : floor ≡ k.nothing
   pub capacity_fits : capacity ≤ k.most
   pub horizon_fits : horizon ≤ 1048576
   pub horizon_open : 1 ≤ capacity → 1 ≤ horizon

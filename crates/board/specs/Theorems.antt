@@ -2,7 +2,6 @@
 use Rattle.std.specs.Prelude.{◌≡◌, ℕ, ◌⊎◌}
 use Rattle.units.specs.Kinds.{Kind, Lawful}
 use Rattle.slots.specs.Lists.{In}
-use Rattle.bookings.specs.declared.event.Event.{Event}
 use Rattle.bookings.specs.declared.row.Row.{Row}
 use Rattle.board.specs.Calls.{Holding, Call, hold, move, made, after}
 use Rattle.board.specs.Keeping.{Kept}

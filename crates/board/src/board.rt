@@ -32,7 +32,7 @@ pub struct Board<'m, L: Units> {
     ghost horizon_same: { witness.horizon ≡ horizon },
     ghost next_same: { witness.next ≡ next },
     ghost room_same: { witness.room ≡ rows.room },
-    ghost ground_same: { witness.floor ≡ slots.floor },
+    ghost floor_same: { witness.floor ≡ slots.floor },
     ghost rows_same: { witness.rows ≡ take rows.count rows.rows.now },
     ghost slots_same: { witness.slots ≡ take slots.used slots.slots.now },
 }

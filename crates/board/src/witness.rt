@@ -26,7 +26,7 @@ pub struct Witness<L: Units> {
 impl<L: Units> Model for Witness<L> {
     ghost also_owns = { λ w. fex (Keeping L.Units.kind w.capacity w.horizon w.next w.room w.floor w.rows w.slots) (λ _. ftrue) };
 
-    ghost also_shares = { λ w _ κ. said (fex (Keeping L.Units.kind w.capacity w.horizon w.next w.room w.floor w.rows w.slots) (λ _. ftrue)) (λ _. tt) κ };
+    ghost also_shares = { λ w _ κ. said (fex (Keeping L.Units.kind w.capacity w.horizon w.next w.room w.floor w.rows w.slots) (λ _. ftrue)) κ };
 }
 
 impl<L: Units> Witness<L> {

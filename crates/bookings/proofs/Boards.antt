@@ -1,5 +1,5 @@
 -- A booking taken from a sound board, and one that comes to it. Assumes nothing.
-use Rattle.std.proofs.Common.{◌≡◌, ℕ, Bool, true, false, cond, List, [], ◌∷◌, sym, refl, ap, ◌∙◌, subst}
+use Rattle.std.proofs.Common.{◌≡◌, ℕ, Bool, true, false, List, [], ◌∷◌, sym, refl, ap, ◌∙◌, subst}
 use mathlib.Core.Bool.{So}
 use Rattle.slots.specs.Lists.{Reordered, none_left, keep, swap, after}
 use Rattle.units.specs.Kinds.{Kind, Laws}

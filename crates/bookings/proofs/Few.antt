@@ -1,7 +1,6 @@
 -- Each record's minute is the start or the end of a booking, so there are few. Assumes nothing.
-use Rattle.std.proofs.Common.{◌≡◌, ℕ, zero, suc, ◌+◌, ◌*◌, ◌<◌, ◌≤◌, Bool, true, false, cond, ◌&&◌, ltb, leb, ◌⊎◌, List, [], ◌∷◌, length, sym, refl, ap, ◌∙◌, subst, ap₂, inl, inr, arith}
-use mathlib.Core.Bool.{So}
-use Rattle.std.proofs.lemmas.Bool.{le-leb, lt-leb, cases_order, cases_eq, and_left}
+use Rattle.std.proofs.Common.{◌≡◌, ℕ, zero, suc, ◌*◌, ◌<◌, ◌≤◌, false, cond, ◌&&◌, ltb, leb, List, [], ◌∷◌, length, sym, refl, ap, ◌∙◌, ap₂, inl, inr, arith}
+use Rattle.std.proofs.lemmas.Bool.{le-leb, lt-leb, cases_order, and_left}
 use Rattle.bookings.specs.Theorems.{SlotsFew}
 use Rattle.slots.specs.Lists.{In}
 use Rattle.units.specs.Kinds.{Kind, Laws}

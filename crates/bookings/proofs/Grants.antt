@@ -1,5 +1,5 @@
 -- From the search, the choice and the laws: a grant keeps the board sound, and a refusal is right. Assumes nothing.
-use Rattle.std.proofs.Common.{◌≡◌, ℕ, ◌+◌, ◌≤◌, true, false, ltb, leb, List, [], ◌∷◌, map, Some, None, Option, sym, refl, ap, ◌∙◌, subst, arith}
+use Rattle.std.proofs.Common.{◌≡◌, ℕ, ◌+◌, ◌≤◌, ltb, leb, List, [], ◌∷◌, map, Some, None, sym, ap, subst, arith}
 use mathlib.Core.Bool.{So}
 use Rattle.std.proofs.lemmas.Bool.{leb-true, ltb-true, and_parts}
 use Rattle.slots.specs.Lists.{In}

@@ -2,8 +2,6 @@
 use Rattle.std.proofs.Common.{◌≡◌, ℕ, suc, ◌+◌, ◌≤◌, Bool, true, false, cond, ltb, leb, List, [], ◌∷◌, Decides, sym, refl, ap, ◌∙◌, subst, arith}
 use mathlib.Core.Bool.{So}
 use Rattle.std.proofs.lemmas.Bool.{le-ltb, and_right}
-use Rattle.slots.specs.Stepped.{at, Canonical, edited}
-use Rattle.slots.specs.declared.slot.Slot.{Slot}
 use Rattle.slots.proofs.Unique.{unique}
 use Rattle.slots.proofs.Changes.{changes_canonical, changes_at}
 use Rattle.slots.proofs.Edited.{edited_right}

@@ -1,11 +1,10 @@
 -- The order in which claims are put on does not count, and no unit is lost. Assumes nothing.
-use Rattle.std.proofs.Common.{◌≡◌, ℕ, zero, suc, ◌+◌, Bool, true, false, cond, List, [], ◌∷◌, sym, refl, ap, ◌∙◌, subst, arith}
+use Rattle.std.proofs.Common.{◌≡◌, ℕ, suc, ◌+◌, Bool, true, false, cond, List, [], ◌∷◌, refl, ap, ◌∙◌, subst, arith}
 use mathlib.Core.Path.{fun_ext}
-use mathlib.Core.Bool.{So}
 use Rattle.slots.specs.Lists.{Reordered, none_left, keep, swap, after}
 use Rattle.units.specs.Kinds.{Kind, Laws}
 use Rattle.slots.specs.Stepped.{changes}
-use Rattle.bookings.specs.Bookings.{stands, standing, put_all, AllClear, load_at, Sound, slot_list, taken}
+use Rattle.bookings.specs.Bookings.{stands, standing, put_all, AllClear, taken}
 use Rattle.bookings.specs.declared.booking.Booking.{Booking}
 use Rattle.bookings.specs.Theorems.{UnitsConserved, RowsInAnyOrder, OrderIsFree, SlotsOfClaims}
 

@@ -17,12 +17,12 @@ module _ {V : Type 0} (was is : SlotList V) (xs : List (Slot V)) (w : Rewritten 
   rewritten_records = ap₂ take w.used_is w.memory_is ∙ laid_holds (slot_of 0 was.floor) was.room xs was.slots.now
 
   pub rewritten_laid : length xs ≤ was.room → was.room ≤ length was.slots.now → Laid (slot_of 0 is.floor) is.used is.room is.slots.now
-  rewritten_laid l k = rw (w.ground_is, w.used_is, w.room_is, w.memory_is) (laid_is (slot_of 0 was.floor) was.room xs was.slots.now l k)
+  rewritten_laid l k = rw (w.floor_is, w.used_is, w.room_is, w.memory_is) (laid_is (slot_of 0 was.floor) was.room xs was.slots.now l k)
 
   pub rewritten_tidy : length xs ≤ was.room → was.room ≤ length was.slots.now → Canonical 0 was.floor xs → Tidy is
   rewritten_tidy l k c = record {
     laid_out = rewritten_laid l k;
-    canonical = rw (w.ground_is, rewritten_records) c;
+    canonical = rw (w.floor_is, rewritten_records) c;
   }
 
 module _ {V : Type 0} (was : SlotList V) (t : Tidy was) where
@@ -34,7 +34,7 @@ module _ {V : Type 0} (was : SlotList V) (t : Tidy was) where
   kept_tidy = record {
     used_is = sym records_long;
     room_is = refl;
-    ground_is = refl;
+    floor_is = refl;
     memory_is = laid_now (slot_of 0 was.floor) was.used was.room was.slots.now t.laid_out;
   }
 

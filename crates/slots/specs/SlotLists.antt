@@ -22,5 +22,5 @@ changeable from until room xs = nat_lt from until && nat_le (length xs + (lacks 
 pub record Rewritten {V : Type 0} (was : SlotList V) (xs : List (Slot V)) (is : SlotList V) : Type 0 where
   pub used_is : is.used ≡ length xs
   pub room_is : is.room ≡ was.room
-  pub ground_is : is.floor ≡ was.floor
+  pub floor_is : is.floor ≡ was.floor
   pub memory_is : is.slots.now ≡ laid (slot_of 0 was.floor) was.room xs was.slots.now

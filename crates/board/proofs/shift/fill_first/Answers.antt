@@ -1,4 +1,4 @@
-use Rattle.std.proofs.Common.{◌≡◌, ◌<◌, List, length, set, ap, ◌∙◌, arith}
+use Rattle.std.proofs.Common.{◌<◌, length, arith}
 use Rattle.board.proofs.Shifted.{blanks}
 use Rattle.board.proofs.shift.fill_first.Goals as goal
 

@@ -1,4 +1,4 @@
-use Rattle.std.proofs.Common.{◌≡◌, ◌+◌, List, drop, sym, ◌∙◌}
+use Rattle.std.proofs.Common.{◌+◌, List, drop, sym, ◌∙◌}
 use Rattle.std.proofs.lemmas.List.{at_drop_all}
 use Rattle.bookings.specs.Bookings.{standing, put_all}
 use Rattle.bookings.specs.Rows.{bookings}

@@ -1,4 +1,4 @@
-use Rattle.std.proofs.Common.{◌≡◌, ap, ◌∙◌}
+use Rattle.std.proofs.Common.{ap, ◌∙◌}
 use Rattle.slots.specs.Memory.{laid}
 use Rattle.slots.specs.Stepped.{slot_of}
 use Rattle.slots.proofs.Blanks.{laid_now}
@@ -12,7 +12,7 @@ returns g c =
     let is = c.args.self in
     let kept = kept_of g.L.Units.kind is c.told.ensures in
     record {
-      rows = c.close.ensures.rows ∙ laid_now _ _ _ _ (rows_laid is) ∙ ap (λ v. laid (blank_row v) is.rows.room (holding is).book.rows is.rows.rows.now) kept.ground_is;
-      slots = c.close-2.ensures.slots ∙ laid_now _ _ _ _ (slots_laid is) ∙ ap (λ v. laid (slot_of 0 v) is.slots.room (holding is).slots is.slots.slots.now) kept.ground_is;
+      rows = c.close.ensures.rows ∙ laid_now _ _ _ _ (rows_laid is) ∙ ap (λ v. laid (blank_row v) is.rows.room (holding is).book.rows is.rows.rows.now) kept.floor_is;
+      slots = c.close-2.ensures.slots ∙ laid_now _ _ _ _ (slots_laid is) ∙ ap (λ v. laid (slot_of 0 v) is.slots.room (holding is).slots is.slots.slots.now) kept.floor_is;
       lent = (c.close.ensures.lent, c.close-2.ensures.lent);
     }

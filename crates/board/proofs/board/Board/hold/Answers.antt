@@ -1,6 +1,6 @@
-use Rattle.std.proofs.Common.{◌≡◌, Ok, sym, refl, ap, ◌∙◌, subst}
+use Rattle.std.proofs.Common.{Ok, sym, refl, ap, ◌∙◌, subst}
 use Rattle.bookings.specs.Grants.{booked}
-use Rattle.board.specs.Calls.{Holding, with_booking}
+use Rattle.board.specs.Calls.{with_booking}
 use Rattle.board.specs.Results.{Takes}
 use Rattle.board.specs.Views.{holding}
 use Rattle.board.specs.declared.grant.Grant.{Grant}

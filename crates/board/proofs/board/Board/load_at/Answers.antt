@@ -1,4 +1,4 @@
-use Rattle.std.proofs.Common.{◌≡◌, ap, ◌∙◌}
+use Rattle.std.proofs.Common.{ap, ◌∙◌}
 use Rattle.slots.specs.Stepped.{at}
 use Rattle.board.specs.Views.{holding}
 use Rattle.board.proofs.Keeps.{right}
@@ -10,4 +10,4 @@ returns g c =
     let is = c.args.self.now in
     let k = g.L.Units.kind in
     let kept = kept_of k is c.told.ensures in
-    c.at.ensures ∙ ap (λ v. at v (holding is).slots c.args.minute) kept.ground_is ∙ (right k g.met.L.Units.keeps is.slots.floor (holding is) kept).1 c.args.minute
+    c.at.ensures ∙ ap (λ v. at v (holding is).slots c.args.minute) kept.floor_is ∙ (right k g.met.L.Units.keeps is.slots.floor (holding is) kept).1 c.args.minute

@@ -1,4 +1,4 @@
-use Rattle.std.proofs.Common.{◌≡◌, [], length, take, sym, refl, ap, ◌∙◌, ap₂, arith}
+use Rattle.std.proofs.Common.{[], length, take, sym, refl, ap, ◌∙◌, ap₂, arith}
 use Rattle.slots.specs.Memory.{laid}
 use Rattle.slots.specs.Stepped.{slot_of}
 use Rattle.bookings.specs.Rows.{blank_row}
@@ -24,8 +24,8 @@ pub new-rows-requires : goal.new-rows-requires
 new-rows-requires g c =
     rows_suffice g.L.Units.kind c.args.capacity c.args.horizon (length c.args.rows.now) (length c.args.slots.now) c.set_up_check.result c.set_up_check.ensures c.is_none-allowed.result c.is_none-allowed.ensures _ _ _ c.minutes_if-capacity.ensures c.minutes_if-horizon.ensures c.rows_if-room.ensures
 
-pub invariant-of-result : goal.invariant-of-result
-invariant-of-result g c =
+pub invariant_of-result : goal.invariant_of-result
+invariant_of-result g c =
     let k = g.L.Units.kind in
     let rows = c.new-rows.result in
     let slots = c.new-slots.result in
@@ -34,28 +34,23 @@ invariant-of-result g c =
     let enough = records_suffice k c.args.capacity c.args.horizon (length c.args.rows.now) (length c.args.slots.now) c.set_up_check.result c.set_up_check.ensures c.is_none-allowed.result c.is_none-allowed.ensures _ _ _ c.minutes_if-capacity.ensures c.minutes_if-horizon.ensures c.rows_if-room.ensures in
     let laid-rows = new_laid (blank_row slots.floor) c.blank_row.result rows.count rows.room c.args.rows.now rows.rows.now c.new-rows.ensures.count (c.blank_row.ensures ∙ ap blank_row (sym c.new-slots.ensures.floor)) (omega (arith, fit, c.new-rows.ensures.room)) (c.new-rows.ensures.rows ∙ ap (λ n. laid c.blank_row.result n [] c.args.rows.now) (sym c.new-rows.ensures.room)) in
     let laid-slots = new_laid (slot_of 0 slots.floor) (slot_of 0 c.nothing-floor.result) slots.used slots.room c.args.slots.now slots.slots.now c.new-slots.ensures.used (ap (slot_of 0) (sym c.new-slots.ensures.floor)) (omega (arith, c.new-slots.ensures.room)) c.new-slots.ensures.slots in
-    let told = c.witness_of-witness.ensures in (
-      laid-rows.used_fits,
-      (
-        laid-rows.room_fits,
-        (
-          laid-rows.blank_behind,
-          (
-            omega (arith, enough, c.new-slots.ensures.room, c.new-rows.ensures.room),
-            (
-              laid-slots.used_fits,
-              (
-                laid-slots.room_fits,
-                (
-                  laid-slots.blank_behind,
-                  (told.0, (told.1, (told.2, (told.3, (told.4, (told.5, (told.6, tt))))))),
-                ),
-              ),
-            ),
-          ),
-        ),
-      ),
-    )
+    let told = c.witness_of-witness.ensures in
+    record {
+      rows_used = laid-rows.used_fits;
+      rows_fit = laid-rows.room_fits;
+      rows_blank = laid-rows.blank_behind;
+      slots_room = omega (arith, enough, c.new-slots.ensures.room, c.new-rows.ensures.room);
+      slots_used = laid-slots.used_fits;
+      slots_fit = laid-slots.room_fits;
+      slots_blank = laid-slots.blank_behind;
+      capacity_same = told.0;
+      horizon_same = told.1;
+      next_same = told.2;
+      room_same = told.3;
+      floor_same = told.4;
+      rows_same = told.5;
+      slots_same = told.6;
+    }
 
 pub returns : goal.returns
 returns g c =

@@ -1,4 +1,4 @@
-use Rattle.std.proofs.Common.{◌≡◌, get_or, Err, sym, ap, ◌∙◌}
+use Rattle.std.proofs.Common.{get_or, Err, sym, ap, ◌∙◌}
 use Rattle.bookings.specs.Rows.{blank_row}
 use Rattle.board.specs.Views.{holding}
 use Rattle.board.proofs.Answered.{moved_done, moved_barred, moved_after}

@@ -1,4 +1,4 @@
-use Rattle.std.proofs.Common.{◌≡◌, Some, sym, refl, ap, ◌∙◌}
+use Rattle.std.proofs.Common.{sym, refl, ap, ◌∙◌}
 use Rattle.bookings.proofs.Found.{some_is}
 use Rattle.board.specs.Calls.{with_state}
 use Rattle.board.specs.Views.{holding}
@@ -13,32 +13,27 @@ witness_of-requires g c =
     let now = restated g.L.Units.kind c.args.self.now c.args.number c.args.place c.requires.0 c.get-row.result c.get-row.ensures c.args.state c.replace.new.self did.rows did.count did.room g.met.L.Units.keeps c.told.ensures c.requires.1 in
     (in_use _ _ _ _ now.rows_laid, (in_use _ _ _ _ now.slots_laid, now.kept))
 
-pub invariant-of-self : goal.invariant-of-self
-invariant-of-self g c =
+pub invariant_of-self : goal.invariant_of-self
+invariant_of-self g c =
     let did = c.replace.ensures in
     let now = restated g.L.Units.kind c.args.self.now c.args.number c.args.place c.requires.0 c.get-row.result c.get-row.ensures c.args.state c.replace.new.self did.rows did.count did.room g.met.L.Units.keeps c.told.ensures c.requires.1 in
-    let told = c.witness_of.ensures in (
-      now.rows_laid.used_fits,
-      (
-        now.rows_laid.room_fits,
-        (
-          now.rows_laid.blank_behind,
-          (
-            now.rooms,
-            (
-              now.slots_laid.used_fits,
-              (
-                now.slots_laid.room_fits,
-                (
-                  now.slots_laid.blank_behind,
-                  (told.0, (told.1, (told.2, (told.3, (told.4, (told.5, (told.6, tt))))))),
-                ),
-              ),
-            ),
-          ),
-        ),
-      ),
-    )
+    let told = c.witness_of.ensures in
+    record {
+      rows_used = now.rows_laid.used_fits;
+      rows_fit = now.rows_laid.room_fits;
+      rows_blank = now.rows_laid.blank_behind;
+      slots_room = now.rooms;
+      slots_used = now.slots_laid.used_fits;
+      slots_fit = now.slots_laid.room_fits;
+      slots_blank = now.slots_laid.blank_behind;
+      capacity_same = told.0;
+      horizon_same = told.1;
+      next_same = told.2;
+      room_same = told.3;
+      floor_same = told.4;
+      rows_same = told.5;
+      slots_same = told.6;
+    }
 
 pub returns : goal.returns
 returns g c =
@@ -47,7 +42,7 @@ returns g c =
     let row = c.get-row.result in
     let now = restated g.L.Units.kind was c.args.number c.args.place c.requires.0 row c.get-row.ensures c.args.state c.replace.new.self did.rows did.count did.room g.met.L.Units.keeps c.told.ensures c.requires.1 in
     record {
-      board = λ r e. now.holding-is ∙ ap (λ x. with_state (holding was) c.args.number x c.args.state) (some_is row r (sym (read_is c.args.number c.args.place (holding was).book.rows row c.requires.0 c.get-row.ensures) ∙ e));
+      board = λ r e. now.holding_is ∙ ap (λ x. with_state (holding was) c.args.number x c.args.state) (some_is row r (sym (read_is c.args.number c.args.place (holding was).book.rows row c.requires.0 c.get-row.ensures) ∙ e));
       rest = same_behind _ _ _ _ now.rows_behind now.slots_behind;
       lent = (did.lent, refl);
     }

@@ -71,7 +71,7 @@ returns g c =
       list = λ t. record {
         used_is = left_new same told f from until span was t ends found.start found.end fits c.part-parted.new.slots c.gather-left.new.slots c.part-parted.result c.gather-left.result parted.used parted.slots over.count over.front over.rest over.fewer;
         room_is = refl;
-        ground_is = refl;
+        floor_is = refl;
         memory_is = c.fill_from.ensures ∙ memory_new same told f from until span was t ends found.start found.end fits c.part-parted.new.slots c.gather-left.new.slots c.part-parted.result c.gather-left.result parted.used parted.slots over.count over.front over.rest over.fewer;
       };
       room = refl;
