@@ -65,7 +65,7 @@ impl Answer {
     pub fn write_to(&self, slots: &[Slot<Crew>], out: &mut String) -> Result<(), AllocError>
         ensures { string_bytes out.new ≡ (if is_ok result then string_bytes out.old ++ text_of slots.now self.now else string_bytes out.old) }
     {
-        let text = self.text(out.allocator(), slots)?;
+        let text = self.text(*out.allocator(), slots)?;
         out.push_str(&text)
     }
 }

@@ -10,7 +10,7 @@ pub loop-place-init : goal.loop-place-init
 loop-place-init g c = none_filled g.row.N (numbers_of c.args.fields.now)
 
 pub returns-in_err-first : goal.returns-in_err-first
-returns-in_err-first g c = c.from-residual.ensures ∙ too_few c.loop-place.invariant c.loop-place-test.true c.in_err-first.ensures
+returns-in_err-first g c = c.from_residual.ensures ∙ too_few c.loop-place.invariant c.loop-place-test.true c.in_err-first.ensures
 
 pub loop-place-preserved : goal.loop-place-preserved
 loop-place-preserved g c = one_filled c.loop-place.invariant c.in_ok-first.first _ c.loop-place-test.true c.in_ok-first.ensures
