@@ -70,10 +70,12 @@ fn lines_with_and_without_an_end(rt: HostRuntime) -> Result<(), Fail> {
 fn each_item_holds_its_own_part(rt: HostRuntime) {
     for item in SheetReader::new(b"L\n\xff\x00\n\nC 1") {
         match item {
-            Item::Entry(line, Order::List) => assert!(rt; line.at == 0 && line.bytes == b"L"),
-            Item::Bad(line) => assert!(rt; line.at == 2 && line.bytes == b"\xff\x00"),
+            Item::Entry(line, Order::List) => assert!(rt;
+                line.at == 0 && line.bytes == b"L".as_slice()
+            ),
+            Item::Bad(line) => assert!(rt; line.at == 2 && line.bytes == b"\xff\x00".as_slice()),
             Item::Remark(line) => assert!(rt; line.at == 5 && line.bytes.is_empty()),
-            Item::Entry(line, _) => assert!(rt; line.at == 6 && line.bytes == b"C 1"),
+            Item::Entry(line, _) => assert!(rt; line.at == 6 && line.bytes == b"C 1".as_slice()),
         }
     }
 }
@@ -109,6 +111,6 @@ fn answers_as_text(rt: HostRuntime) -> Result<(), Fail> {
     for answer in answers {
         answer.write_to(&slots, &mut out)?;
     }
-    assert!(rt; out == "ok 1 0 3\nlate 3 120\nno 9\nok\nlist 2\n60 127\n120 0\n");
+    assert!(rt; out.as_str() == "ok 1 0 3\nlate 3 120\nno 9\nok\nlist 2\n60 127\n120 0\n");
     Ok(())
 }

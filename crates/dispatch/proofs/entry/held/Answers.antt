@@ -1,4 +1,4 @@
-use Rattle.std.proofs.Common.{◌≡◌, sym, ap, ◌∙◌}
+use Rattle.std.proofs.Common.{sym, ap, ◌∙◌}
 use Rattle.units.specs.Crews.{crew_kind}
 use Rattle.planning.specs.Rules.{earliest_start}
 use Rattle.board.specs.Calls.{hold_check, found_on}

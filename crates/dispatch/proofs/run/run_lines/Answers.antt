@@ -1,6 +1,5 @@
-use Rattle.std.proofs.Common.{◌≡◌, ◌++◌, map, drop, string_bytes, refl, ap, ◌∙◌}
+use Rattle.std.proofs.Common.{◌++◌, map, string_bytes, ap, ◌∙◌}
 use Rattle.board.specs.Views.{holding}
-use Rattle.sheet.specs.Lines.{lines}
 use Rattle.sheet.specs.Orders.{content}
 use Rattle.sheet.proofs.LinesInOrder.{lines_from}
 use Rattle.dispatch.specs.Running.{texts}
@@ -9,7 +8,7 @@ use Rattle.dispatch.proofs.run.run_lines.Goals as goal
 
 pub loop-item-init : goal.loop-item-init
 loop-item-init c =
-    let is = c.into-iter-item-iterator.ensures.into-iter-gives in (
+    let is = c.into_iter-item-iterator.ensures.into_iter_gives in (
       ap (λ r. r.sheet.now) is ∙ c.new-item-items.ensures.sheet,
       ap (λ n. string_bytes c.args.out.now ++ texts (holding c.args.board.now) (map content (lines_from c.args.sheet.now n))) (ap (λ r. r.at) is ∙ c.new-item-items.ensures.place),
     )
