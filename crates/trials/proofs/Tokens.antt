@@ -1,5 +1,5 @@
 -- What becomes of a token while its booking is held. Assumes nothing.
-use Rattle.std.proofs.Common.{◌≡◌, ℕ, true, is_ok, Some, Ok, Err, Result, refl, ap, ◌∙◌, ap₂, arith}
+use Rattle.std.proofs.Common.{◌≡◌, ℕ, true, is_ok, Some, Ok, Err, Result, ap, ◌∙◌, ap₂, arith}
 use Rattle.units.specs.Kinds.{Kind}
 use Rattle.planning.specs.Policies.{Preference}
 use Rattle.planning.specs.declared.request.Request.{Request}

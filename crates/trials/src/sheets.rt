@@ -7,7 +7,7 @@ use std::test::Fail;
 // Is this all that the sheet prints?
 fn prints(rt: &impl Abort, heap: Global, sheet: &[u8], text: &str) -> Result<(), Fail> {
     let answers = run(heap, sheet)?;
-    assert!(rt; answers == text);
+    assert!(rt; answers.as_str() == text);
     Ok(())
 }
 
@@ -105,7 +105,8 @@ fn half_the_crew(sheet: &mut String, text: &mut String, index: u16) -> Result<()
     let start = u32::from(index) % 64 / 2 * 315;
     let claim = if index % 2 == 0 { 15 } else { 240 };
     sheet.push_str("P 0 315 10080 4 10080\n")?;
-    text.push_str(&format!(in text.allocator(); "ok {number} {start} {claim}\n")?)?;
+    let heap = *text.allocator();
+    text.push_str(&format!(in heap; "ok {number} {start} {claim}\n")?)?;
     Ok(())
 }
 
