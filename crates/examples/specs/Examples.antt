@@ -1,5 +1,5 @@
 -- The worked examples of the rules: what boards of 4 mechanics and of 3 pieces are asked, and what they answer. Assumes nothing.
-use Rattle.std.specs.Prelude.{◌≡◌, ℕ, List, [], ◌∷◌, Some, Option}
+use Rattle.std.specs.Prelude.{◌≡◌, ℕ, [], ◌∷◌, Some, Option}
 use Rattle.slots.specs.Stepped.{at, slot_of}
 use Rattle.slots.specs.declared.slot.Slot.{Slot}
 use Rattle.units.specs.Crews.{crew_kind, of_mask}
