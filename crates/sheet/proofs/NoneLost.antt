@@ -2,7 +2,7 @@
 use Rattle.std.proofs.Common.{◌≡◌, ℕ, ◌+◌, List, [], ◌∷◌, map, length, take, drop, Some, None, sym, refl, ap, ◌∙◌, subst, arith}
 use mathlib.Core.List.{map-map}
 use Rattle.std.specs.Iterator.{Yields}
-use Rattle.std.specs.List.{AllByRecursion as All}
+use Rattle.std.specs.List.{AllByRecursion}
 use Rattle.std.proofs.lemmas.List.{at_drop_all}
 use Rattle.std.proofs.iter.runs.Made.{took}
 use Rattle.std.proofs.iter.runs.Sources.{from_front}
@@ -44,7 +44,7 @@ own_line sheet place to i r =
     let e : part_of i ≡ part place (line_at sheet place) = r.own in
     subst (Own sheet) (sym e) (ap (λ n. take n (drop place sheet)) (sym (length_line_at sheet place)))
 
-each_own : (sheet : List ℕ) (is : List Item) (s t : SheetReader) → s.sheet.now ≡ sheet → Yields Steps s is t → All (λ i. Own sheet (part_of i)) is
+each_own : (sheet : List ℕ) (is : List Item) (s t : SheetReader) → s.sheet.now ≡ sheet → Yields Steps s is t → AllByRecursion (λ i. Own sheet (part_of i)) is
 each_own sheet [] s t e y = tt
 each_own sheet (i ∷ is) s t e y =
     (subst (λ bs. Own bs (part_of i)) e (own_line _ _ _ i y.1.1), each_own sheet is y.0 t (y.1.0 ∙ e) y.2)

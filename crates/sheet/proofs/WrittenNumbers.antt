@@ -6,7 +6,7 @@ use Rattle.std.proofs.lemmas.Str.Parse.{IsNumeralModel, numerals_by_fold, tells_
 use Rattle.std.proofs.lemmas.Bool.{cases_eq, eqb-true, leb-true, and_parts}
 use Rattle.std.specs.Bool.{then_some}
 use Rattle.std.specs.Char.{is_ascii_digit}
-use Rattle.std.specs.List.{AllByRecursion as All}
+use Rattle.std.specs.List.{AllByRecursion}
 use Rattle.std.specs.Str.{all_ascii_digits}
 use Rattle.sheet.specs.Fields.{value_after, plain, number_of, with_first, numbers_of, spaced}
 use Rattle.sheet.specs.Lines.{length_before}
@@ -74,7 +74,7 @@ spaced_ends : (ns : List ℕ) → length_before 32 (spaced [] ns) ≡ 0
 spaced_ends [] = refl
 spaced_ends (n ∷ ns) = refl
 
-pub numbers_written : (ns : List ℕ) → All (λ n. n ≤ 4294967295) ns → numbers_of (spaced [] ns) ≡ Some ns
+pub numbers_written : (ns : List ℕ) → AllByRecursion (λ n. n ≤ 4294967295) ns → numbers_of (spaced [] ns) ≡ Some ns
 numbers_written [] h = refl
 numbers_written (n ∷ ns) h =
     let rest = spaced [] ns in
@@ -90,7 +90,7 @@ with_first_parts (Some n) None m ms e = absurd (none_some _ e)
 with_first_parts (Some n) (Some ns) m ms e = (cc, cc)
 
 abbrev Reads : List ℕ → List ℕ → Type 0
-Reads ns bs = (bs ≡ spaced [] ns) × All (λ n. n ≤ 4294967295) ns
+Reads ns bs = (bs ≡ spaced [] ns) × AllByRecursion (λ n. n ≤ 4294967295) ns
 
 pub numbers_read : (ns bs : List ℕ) → numbers_of bs ≡ Some ns → Reads ns bs
 numbers_read [] [] e = (refl, tt)

@@ -3,7 +3,7 @@ use Rattle.std.proofs.Common.{◌≡◌, ℕ, ◌≤◌, Bool, true, false, cond
 use Rattle.std.proofs.lemmas.Bool.{eqb-true}
 use Rattle.std.specs.Option.{option_map}
 use Rattle.std.specs.Bool.{then_some}
-use Rattle.std.specs.List.{AllByRecursion as All}
+use Rattle.std.specs.List.{AllByRecursion}
 use Rattle.sheet.specs.declared.order.Order.{Order}
 use Rattle.sheet.specs.declared.order.Order.TheVariants.{Hold, Cancel, Begin, Finish, List as Lists}
 use Rattle.sheet.specs.Fields.{numbers_of, exactly, spaced}
@@ -72,11 +72,11 @@ entry_from : (x : Option Order) (o : Order) → entry_or_bad x ≡ entry o → x
 entry_from None o e = let z : ◌≡◌ {A = ℕ} 0 1 = cc in absurd (omega arith)
 entry_from (Some p) o e = cc
 
-reads : (line : List ℕ) (o : Order) → content line ≡ entry o → (line ≡ written o) × All (λ n. n ≤ 4294967295) (numbers_in o)
+reads : (line : List ℕ) (o : Order) → content line ≡ entry o → (line ≡ written o) × AllByRecursion (λ n. n ≤ 4294967295) (numbers_in o)
 reads [] o e = let z : ◌≡◌ {A = ℕ} 0 1 = cc in absurd (omega arith)
 reads (b ∷ bs) o e = by_test (eqb b 35) refl e
   where
-    by_test : (v : Bool) → eqb b 35 ≡ v → cond v remark (entry_or_bad (order_of b (numbers_of bs))) ≡ entry o → (b ∷ bs ≡ written o) × All (λ n. n ≤ 4294967295) (numbers_in o)
+    by_test : (v : Bool) → eqb b 35 ≡ v → cond v remark (entry_or_bad (order_of b (numbers_of bs))) ≡ entry o → (b ∷ bs ≡ written o) × AllByRecursion (λ n. n ≤ 4294967295) (numbers_in o)
     by_test true t e = let z : ◌≡◌ {A = ℕ} 0 1 = cc in absurd (omega arith)
     by_test false t e =
         let of = order_read b (numbers_of bs) o (entry_from _ o e) in

@@ -1,7 +1,7 @@
 -- What a line is: an order, a remark, or bad. Assumes nothing.
 use Rattle.std.specs.Prelude.{◌≡◌, ℕ, ◌≤◌, cond, List, [], ◌∷◌, Some, None, Option, ◌==◌, slice_index}
 use Rattle.std.specs.Option.{option_map}
-use Rattle.std.specs.List.{AllByRecursion as All}
+use Rattle.std.specs.List.{AllByRecursion}
 use Rattle.sheet.specs.declared.order.Order.{Order}
 use Rattle.sheet.specs.declared.order.Order.TheVariants.{Hold, Cancel, Begin, Finish, List as Lists}
 use Rattle.sheet.specs.Fields.{numbers_of, exactly, spaced}
@@ -66,8 +66,8 @@ content (b ∷ bs) = cond (b == 35) remark (entry_or_bad (order_of b (numbers_of
 
 -- a line is an order exactly when it is that order written out, with numbers of 32 bits
 pub record AsWritten (line : List ℕ) (o : Order) : Type 0 where
-  pub reads : content line ≡ entry o → (line ≡ written o) × All (λ n. n ≤ 4294967295) (numbers_in o)
-  pub writes : line ≡ written o → All (λ n. n ≤ 4294967295) (numbers_in o) → content line ≡ entry o
+  pub reads : content line ≡ entry o → (line ≡ written o) × AllByRecursion (λ n. n ≤ 4294967295) (numbers_in o)
+  pub writes : line ≡ written o → AllByRecursion (λ n. n ≤ 4294967295) (numbers_in o) → content line ≡ entry o
 
 abbrev pub OrdersAsWritten : Type 0
 OrdersAsWritten = (line : List ℕ) (o : Order) → AsWritten line o

@@ -1,7 +1,7 @@
 -- The steps of the reader, and that no line is lost on its way. Assumes nothing.
 use Rattle.std.specs.Prelude.{◌≡◌, ℕ, ◌<◌, true, ◌⊎◌, List, [], ◌∷◌, ◌++◌, map, length, take, drop, Some, None, Option}
 use Rattle.std.specs.Iterator.Runs.{EveryRun}
-use Rattle.std.specs.List.{AllByRecursion as All}
+use Rattle.std.specs.List.{AllByRecursion}
 use Rattle.sheet.specs.declared.item.Item.{Item}
 use Rattle.sheet.specs.declared.reader.SheetReader.{SheetReader}
 use Rattle.sheet.specs.Lines.{Part, part, lines, parts, ended, line_at, place_after}
@@ -32,7 +32,7 @@ Own sheet p = p.bytes ≡ take (length p.bytes) (drop p.at sheet)
 pub record Whole (sheet : List ℕ) (items : List Item) : Type 0 where
   pub in_order : map part_of items ≡ parts sheet
   pub read : map content_of items ≡ map content (lines sheet)
-  pub own : All (λ i. Own sheet (part_of i)) items
+  pub own : AllByRecursion (λ i. Own sheet (part_of i)) items
   pub nothing_lost : (ended (map (λ i. (part_of i).bytes) items) ≡ sheet) ⊎ (ended (map (λ i. (part_of i).bytes) items) ≡ sheet ++ (10 ∷ []))
 
 -- a run from the start of a sheet to its end yields the whole sheet
