@@ -5,7 +5,7 @@ use Rattle.std.specs.Option.{option_or}
 use Rattle.std.proofs.lemmas.Bool.{cases_lt}
 use Rattle.units.specs.Kinds.{Kind, Laws}
 use Rattle.planning.specs.Rectangles.{opening_of, closing_of}
-use Rattle.planning.specs.Tries.{IsHit, Goes_on}
+use Rattle.planning.specs.Tries.{IsHit, GoesOn}
 use Rattle.planning.specs.declared.find.Hit.{Hit}
 use Rattle.planning.specs.declared.rectangle.Rectangle.{Rectangle}
 use Rattle.planning.specs.declared.request.Request.{Request}
@@ -48,7 +48,7 @@ module _ {L : Type 0} (k : Kind L) (c : ℕ) (laws : Laws k c) (load : ℕ → L
               )
         ]
 
-  pub hit_again : (n h : ℕ) (request : Request) (hit : Hit L) (over : L) (t : ℕ) → IsHit k n h load request (Some hit) → Goes_on hit over t h → (hit.rectangle.opening ≡ opening_of k load over t) × (hit.rectangle.closing ≡ closing_of k load over t (h - t))
+  pub hit_again : (n h : ℕ) (request : Request) (hit : Hit L) (over : L) (t : ℕ) → IsHit k n h load request (Some hit) → GoesOn hit over t h → (hit.rectangle.opening ≡ opening_of k load over t) × (hit.rectangle.closing ≡ closing_of k load over t (h - t))
   hit_again n h request hit over t is on =
       let s = hit.rectangle.start in
       let met = sym is.1 ∙ on.met in

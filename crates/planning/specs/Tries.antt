@@ -25,7 +25,7 @@ IsHit k c h load request (Some hit) =
     (hit.rectangle ≡ rectangle k c h load request s) × (hit.over ≡ joined_over k load s request.duration)
 
 -- the request meets at s what it meets at the hit, and s lies in the hit's stretch, which is within the horizon h
-pub record Goes_on {L : Type 0} (hit : Hit L) (over : L) (s h : ℕ) : Type 0 where
+pub record GoesOn {L : Type 0} (hit : Hit L) (over : L) (s h : ℕ) : Type 0 where
   pub met : hit.over ≡ over
   pub opened : hit.rectangle.opening ≤ s
   pub not_closed : s < hit.rectangle.closing

@@ -2,7 +2,7 @@ ghost use Rattle.std.specs.Prelude.{◌≡◌, suc, ◌-◌, ◌≤◌, true, ma
 ghost use Rattle.planning.specs.Policies.{before, granted, found};
 ghost use Rattle.planning.specs.Requests.{in_window};
 ghost use Rattle.planning.specs.Right.{Right};
-ghost use Rattle.planning.specs.Tries.{found_at, rectangle_of, IsHit, Goes_on, better_of, trying};
+ghost use Rattle.planning.specs.Tries.{found_at, rectangle_of, IsHit, GoesOn, better_of, trying};
 ghost use Rattle.planning.specs.declared.rectangle.Rectangle.{Rectangle};
 ghost use Rattle.slots.specs.Stepped.{at, minutes, ascends, Ascending};
 
@@ -32,7 +32,7 @@ fn in_window(request: Request, start: u32) -> bool
 
 // Is the stretch around `start`, where the request meets `over`, sure to be that of the hit?
 fn goes_on<L: Units>(hit: Hit<L>, over: L, start: u32, horizon: u32) -> bool
-    ensures { result ≡ true → Goes_on hit over start horizon }
+    ensures { result ≡ true → GoesOn hit over start horizon }
 {
     let r = hit.rectangle;
     r.opening <= start && start < r.closing && r.closing <= horizon && hit.over.same(over)

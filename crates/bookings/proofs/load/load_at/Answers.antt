@@ -17,7 +17,7 @@ loop-row-preserved g c =
     let turn = next k c.args.capacity c.args.minute l rows i r c.loop-row-test.true c.row-item.is in
     let was = c.loop-row.invariant in
     elim c.if-stands_at.branch [
-      | then-stands_at w ↦ let e = here k c.args.capacity c.args.minute l r (drop (i + 1) rows) (sym c.stands_at.ensures ∙ w.if-stands_at.true) in let is = w.load-is in let put = w.put-load.ensures in cc
+      | then-stands_at w ↦ let e = here k c.args.capacity c.args.minute l r (drop (i + 1) rows) (sym c.stands_at.ensures ∙ w.if-stands_at.true) in let is = w.load-is in cc
       | else-stands_at w ↦ let e = not_here k c.args.capacity c.args.minute l r (drop (i + 1) rows) (sym c.stands_at.ensures ∙ w.if-stands_at.false) in let is = w.load-is in cc
     ]
 
