@@ -1,4 +1,4 @@
-//! With the feature `office`, links the static library: from the folder in OFFICE_LIB, or else from the repository's target/staticlib.
+//! With the feature `office`, links the static library: from the folder in OFFICE_LIB, or else from the crate's out/.
 use std::env;
 use std::path::PathBuf;
 
@@ -9,7 +9,7 @@ fn main() {
         return;
     }
     let here = PathBuf::from(env::var_os("CARGO_MANIFEST_DIR").expect("cargo says where the crate is"));
-    let folder = env::var_os("OFFICE_LIB").map_or(here.join("../../target/staticlib"), PathBuf::from);
+    let folder = env::var_os("OFFICE_LIB").map_or(here.join("../../crates/office/out"), PathBuf::from);
     println!("cargo:rerun-if-changed={}", folder.join("liboffice.a").display());
     println!("cargo:rustc-link-search=native={}", folder.display());
     println!("cargo:rustc-link-lib=static=office");

@@ -1,31 +1,32 @@
 -- What it says that no check applies. Assumes nothing.
-use Rattle.std.proofs.Common.{◌≡◌, ℕ, ◌+◌, ◌*◌, ◌≤◌, Bool, true, false, cond, not, ◌||◌, eqb, ltb, leb, List, [], ◌∷◌, length, Some, None, sym, refl, arith}
-use Rattle.std.proofs.lemmas.Bool.{ltb-false, leb-true, leb-false, eqb-false, or_parts}
+use Rattle.std.proofs.Common.{◌≡◌, ℕ, ◌+◌, ◌*◌, ◌≤◌, Bool, true, false, cond, not, ◌||◌, eqb, ltb, leb, List, [], ◌∷◌, length, Some, None, refl, arith}
+use Rattle.std.proofs.lemmas.Bool.{ltb-false, leb-true, leb-false, eqb-false, or_parts, not-false}
 use Rattle.units.specs.Kinds.{Kind}
 use Rattle.planning.specs.declared.request.Request.{Request}
 use Rattle.bookings.specs.Rows.{Book}
-use Rattle.bookings.specs.declared.refusal.Refusal.{Refusal}
 use Rattle.bookings.proofs.Found.{some_none}
-use Rattle.board.specs.Calls.{first_check, set_up_checks, set_up_check, hold_checks, hold_check, Askable}
+use Rattle.bookings.specs.Refusals.{first_that_applies}
+use Rattle.board.specs.Calls.{set_up_checks, set_up_check, hold_checks, hold_check, Askable}
 
-abbrev Passed : List (Bool × Refusal) → Type 0
+-- none of the checks applies
+abbrev pub Passed : {Why : Type 0} → List (Bool × Why) → Type 0
 Passed [] = Unit {0}
 Passed (t ∷ ts) = (t.0 ≡ false) × Passed ts
 
-none_applies : (ts : List (Bool × Refusal)) → first_check ts ≡ None → Passed ts
+pub none_applies : {Why : Type 0} (ts : List (Bool × Why)) → first_that_applies ts ≡ None → Passed ts
 none_applies [] e = tt
 none_applies (t ∷ ts) e = go t.0 (none_applies ts) e
   where
-    go : (b : Bool) → (first_check ts ≡ None → Passed ts) → cond b (Some t.1) (first_check ts) ≡ None → (b ≡ false) × Passed ts
+    go : (b : Bool) → (first_that_applies ts ≡ None → Passed ts) → cond b (Some t.1) (first_that_applies ts) ≡ None → (b ≡ false) × Passed ts
     go true rest e = absurd (some_none t.1 e)
     go false rest e = (refl, rest e)
 
+pub first_none : {Why : Type 0} (ts : List (Bool × Why)) → Passed ts → first_that_applies ts ≡ None
+first_none [] p = refl
+first_none (t ∷ ts) p = rw p.0 (first_none ts p.1)
+
 positive : (n : ℕ) → eqb n 0 ≡ false → 1 ≤ n
 positive n t = let o : (n ≡ 0 → ⊥) = eqb-false n 0 t in omega arith
-
-not_not : (b : Bool) → not b ≡ false → b ≡ true
-not_not true e = refl
-not_not false e = sym e
 
 pub unchecked : {L : Type 0} (book : Book L) (request : Request) → hold_check book request ≡ None → Askable book request
 unchecked book request e =
@@ -35,7 +36,7 @@ unchecked book request e =
     record {
       some_minutes = positive request.duration passed.0;
       some_units = positive request.wanted wanted.0;
-      no_more_than_there_are = leb-true _ _ (not_not (leb request.wanted book.capacity) wanted.1);
+      no_more_than_there_are = leb-true _ _ (not-false (leb request.wanted book.capacity) wanted.1);
       by_the_horizon = ltb-false _ _ window.0;
       a_window = ltb-false _ _ window.1;
       a_row_left = leb-false book.room (length book.rows) passed.1.1.1.0;

@@ -1,5 +1,5 @@
 -- Every call keeps what a board keeps, and finds room for its records. Assumes nothing.
-use Rattle.std.proofs.Common.{◌≡◌, ℕ, ◌+◌, ◌*◌, ◌<◌, ◌≤◌, Bool, true, false, cond, eqb, List, [], ◌∷◌, ◌++◌, length, Some, None, Option, sym, refl, ap, ◌∙◌, subst, inl, inr, arith, length-append}
+use Rattle.std.proofs.Common.{◌≡◌, ℕ, suc, ◌+◌, ◌*◌, ◌<◌, ◌≤◌, Bool, true, false, cond, eqb, List, [], ◌∷◌, ◌++◌, length, Some, None, Option, sym, refl, ap, ◌∙◌, subst, inl, inr, arith, length-append}
 use mathlib.Core.Path.{fun_ext}
 use Rattle.std.proofs.lemmas.List.{length-map}
 use Rattle.slots.specs.Lists.{In}
@@ -11,9 +11,9 @@ use Rattle.slots.proofs.Rooms.{room_enough}
 use Rattle.units.specs.Kinds.{Kind, Laws, Lawful}
 use Rattle.planning.specs.Policies.{Preference, found}
 use Rattle.planning.specs.declared.request.Request.{Request}
-use Rattle.bookings.specs.Bookings.{load_at, Sound, Within, slot_list}
+use Rattle.bookings.specs.Bookings.{load_at, Sound, Within, FitsBeside, slot_list}
 use Rattle.bookings.specs.Grants.{booking_of}
-use Rattle.bookings.specs.Rows.{row_of, bookings, numbered, replaced}
+use Rattle.bookings.specs.Rows.{row_of, bookings, Numbered, numbered, replaced}
 use Rattle.bookings.specs.declared.booking.Booking.{Booking}
 use Rattle.bookings.specs.declared.refusal.Refusal.{Refusal}
 use Rattle.bookings.specs.declared.row.Row.{Row}
@@ -24,6 +24,7 @@ use Rattle.bookings.proofs.Few.{slots_few, ends, length_ends, at_an_end}
 use Rattle.bookings.proofs.Found.{some_none, some_is, Right, found_right}
 use Rattle.bookings.proofs.Lists.{slots_right, slots_only, slots_after_adding, slots_after_removing}
 use Rattle.bookings.proofs.Numbers.{at_the_end, bookings_more, taken_out, kept_bookings, numbers_more, numbers_without, numbers_with, fewer, as_many}
+use Rattle.board.specs.Adding.{MayEnter, with_row, NumbersFit, emptied}
 use Rattle.board.specs.Calls.{Holding, set_up_check, opened, made, hold_check, Askable, found_on, with_booking, with_state, without_row}
 use Rattle.board.specs.Keeping.{Proper, AllProper, Kept}
 use Rattle.board.proofs.Checks.{unchecked, allowed}
@@ -84,20 +85,23 @@ module _ {L : Type 0} where
 module _ {L : Type 0} (k : Kind L) (lawful : Lawful k) (floor : L) where
   -- MAKING
 
-  pub empty_kept : (c h room : ℕ) → floor ≡ k.nothing → c ≤ k.most → h ≤ 1048576 → (1 ≤ c → 1 ≤ h) → room ≤ 256 → Kept k floor (opened c h room)
-  empty_kept c h room is units minutes some rows = record {
+  pub emptied_kept : (c h room next : ℕ) → floor ≡ k.nothing → NumbersFit k c h next → room ≤ 256 → Kept k floor (emptied c h room next)
+  emptied_kept c h room next is numbers rows = record {
     floor_is = is;
-    capacity_fits = units;
-    horizon_fits = minutes;
-    horizon_open = some;
-    next_fits = omega arith;
+    capacity_fits = numbers.capacity_fits;
+    horizon_fits = numbers.horizon_fits;
+    horizon_open = numbers.horizon_open;
+    next_fits = numbers.next_fits;
     room_fits = rows;
     rows_fit = omega arith;
-    numbers = omega arith;
+    numbers = numbers.next_starts;
     proper = tt;
     sound = λ m. tt;
-    agree = slots_only k c (lawful c units) h [] [] tt tt (λ m. refl);
+    agree = slots_only k c (lawful c numbers.capacity_fits) h [] [] tt tt (λ m. refl);
   }
+
+  pub empty_kept : (c h room : ℕ) → floor ≡ k.nothing → c ≤ k.most → h ≤ 1048576 → (1 ≤ c → 1 ≤ h) → room ≤ 256 → Kept k floor (opened c h room)
+  empty_kept c h room is units minutes some rows = emptied_kept c h room 1 is (record { capacity_fits = units; horizon_fits = minutes; horizon_open = some; next_starts = omega arith; next_fits = omega arith }) rows
 
   pub made_kept : (c h rows records : ℕ) → floor ≡ k.nothing → Kept k floor (made k c h rows records)
   made_kept c h rows records is = go (set_up_check k c h rows records) refl
@@ -139,6 +143,35 @@ module _ {L : Type 0} (k : Kind L) (lawful : Lawful k) (floor : L) where
     room_to_remove n r e =
         omega (arith, room_enough r.booking.start r.booking.end board.slots (ends bs) (proper_one k h n board.book.rows r kept.proper e).has_minutes (canonical_ascending 0 k.nothing board.slots right.0) (at_an_end k c laws bs board.slots right.0 right.1) (start_in n board.book.rows r e) (end_in n board.book.rows r e), length_ends bs, length-map board.book.rows (λ x. x.booking), kept.rows_fit)
 
+    -- A ROW MORE
+
+    -- below the others, whatever the next number is then
+    more_kept : (next : ℕ) (r : Row L) → next ≤ 100000 → Numbered 1 next (board.book.rows ++ (r ∷ [])) → Proper k h r → FitsBeside k c bs r.booking → length board.book.rows < board.book.room → Kept k floor (with_row k board next r)
+    more_kept next r small numbers this fits left =
+        let x = r.booking in
+        let more = bookings_more board.book.rows r in
+        let all = proper_more k h board.book.rows r kept.proper this in
+        let order = at_the_end bs x in
+        record {
+          floor_is = kept.floor_is;
+          capacity_fits = kept.capacity_fits;
+          horizon_fits = kept.horizon_fits;
+          horizon_open = kept.horizon_open;
+          next_fits = small;
+          room_fits = kept.room_fits;
+          rows_fit = omega (arith, length-append board.book.rows (r ∷ []));
+          numbers = numbers;
+          proper = all;
+          sound = subst (Sound k c) (sym more) (addition_sound k c laws bs (bs ++ (x ∷ [])) x order kept.sound fits).sound;
+          agree = ap (edited k.same (k.put c x.claim) x.start x.end k.nothing) kept.agree
+              ∙ slots_after_adding k c laws h bs (bs ++ (x ∷ [])) x order inside (subst (Within h) more (all_within k h (board.book.rows ++ (r ∷ [])) all)) kept.sound fits
+              ∙ ap (slot_list k c h) (sym more);
+        }
+
+    -- a row that may be entered
+    pub enters_kept : (next : ℕ) (r : Row L) → MayEnter k board next r → FitsBeside k c bs r.booking → Kept k floor (with_row k board next r)
+    enters_kept next r may fits = more_kept next r may.next_fits (numbers_more 1 r.number next board.book.rows r (omega arith) may.below_next may.numbers) may.proper fits may.a_row_left
+
     -- HOLD
 
     found_is : (request : Request) (policy : Preference) → found_on k board request policy ≡ booking_of request (found k c policy h (load_at k c bs) request (slot_list k c h bs))
@@ -156,32 +189,23 @@ module _ {L : Type 0} (k : Kind L) (lawful : Lawful k) (floor : L) where
       pub given_in_time : x.end ≤ h
       given_in_time = omega (arith, best.lasts, best.in_time, asked.by_the_horizon)
 
+      -- the row of what was found may be entered
+      pub given_enters : MayEnter k board (suc board.book.next) (row_of board.book.next x Held)
+      given_enters = record {
+        a_row_left = asked.a_row_left;
+        numbers = kept.numbers;
+        below_next = omega arith;
+        next_fits = omega (arith, asked.a_number_left);
+        proper = record {
+          has_minutes = omega (arith, best.lasts, asked.some_minutes);
+          ends_in_time = given_in_time;
+          takes_some = omega (arith, best.size, asked.some_units);
+          not_blank = λ e. let z : ◌≡◌ {A = ℕ} 0 1 = cc in omega arith;
+        };
+      }
+
       pub given_kept : Kept k floor (with_booking k board x)
-      given_kept =
-          let r : Row L = row_of board.book.next x Held in
-          let more = bookings_more board.book.rows r in
-          let all = proper_more k h board.book.rows r kept.proper (record {
-            has_minutes = omega (arith, best.lasts, asked.some_minutes);
-            ends_in_time = given_in_time;
-            takes_some = omega (arith, best.size, asked.some_units);
-            not_blank = λ e. let z : ◌≡◌ {A = ℕ} 0 1 = cc in omega arith;
-          }) in
-          let order = at_the_end bs x in
-          record {
-            floor_is = kept.floor_is;
-            capacity_fits = kept.capacity_fits;
-            horizon_fits = kept.horizon_fits;
-            horizon_open = kept.horizon_open;
-            next_fits = omega (arith, asked.a_number_left);
-            room_fits = kept.room_fits;
-            rows_fit = omega (arith, length-append board.book.rows (r ∷ []), asked.a_row_left);
-            numbers = numbers_more 1 board.book.next board.book.rows r refl kept.numbers;
-            proper = all;
-            sound = subst (Sound k c) (sym more) (addition_sound k c laws bs (bs ++ (x ∷ [])) x order kept.sound best.fits).sound;
-            agree = ap (edited k.same (k.put c x.claim) x.start x.end k.nothing) kept.agree
-                ∙ slots_after_adding k c laws h bs (bs ++ (x ∷ [])) x order inside (subst (Within h) more (all_within k h (board.book.rows ++ (r ∷ [])) all)) kept.sound best.fits
-                ∙ ap (slot_list k c h) (sym more);
-          }
+      given_kept = enters_kept (suc board.book.next) (row_of board.book.next x Held) given_enters best.fits
 
     -- MOVES
 

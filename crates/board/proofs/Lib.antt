@@ -1,6 +1,10 @@
 pub mod Shifted
 pub mod Checks
 pub mod Keeps
+pub mod Admits
+pub mod Loads
+pub mod Accepts
+pub mod FilesMatch
 pub mod Steps
 pub mod Walks
 pub mod Told
@@ -12,5 +16,11 @@ pub mod Reslotted
 pub mod Unbooked
 pub mod Answered
 pub mod Booked
+pub mod Emptied
+pub mod Fitting
+pub mod Admitted
+pub mod TakenOver
+pub mod HeldRows
+pub mod FileWritten
 pub mod Searched
 pub mod Stays

@@ -11,13 +11,13 @@ use Rattle.board.specs.declared.board.Board.{Board}
 use Rattle.board.specs.declared.rows.RowList.{RowList}
 use Rattle.board.proofs.Told.{holds}
 
--- with these rows and slots and that next number the board holds `after`, keeps what boards keep, and leaves what is not its own
-pub record Outcome {L : Type 0} (k : Kind L) (was : Board L) (rows : RowList L) (slots : SlotList L) (next : ℕ) (after : Holding L) : Type 0 where
+-- with these rows, slots and numbers the board holds `after`, keeps what boards keep, and leaves what is not its own
+pub record Outcome {L : Type 0} (k : Kind L) (was : Board L) (rows : RowList L) (slots : SlotList L) (capacity horizon next : ℕ) (after : Holding L) : Type 0 where
   pub rows_laid : Laid (blank_row slots.floor) rows.count rows.room rows.rows.now
   pub slots_laid : Laid (slot_of 0 slots.floor) slots.used slots.room slots.slots.now
   pub rooms : slots.room ≡ 2 * rows.room
-  pub holding_is : holds was.capacity was.horizon rows.room next (take rows.count rows.rows.now) (take slots.used slots.slots.now) ≡ after
-  pub kept : Kept k slots.floor (holds was.capacity was.horizon rows.room next (take rows.count rows.rows.now) (take slots.used slots.slots.now))
+  pub holding_is : holds capacity horizon rows.room next (take rows.count rows.rows.now) (take slots.used slots.slots.now) ≡ after
+  pub kept : Kept k slots.floor (holds capacity horizon rows.room next (take rows.count rows.rows.now) (take slots.used slots.slots.now))
   pub rows_behind : drop rows.room rows.rows.now ≡ drop was.rows.room was.rows.rows.now
   pub slots_behind : drop slots.room slots.slots.now ≡ drop was.slots.room was.slots.slots.now
 

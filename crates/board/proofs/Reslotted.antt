@@ -18,6 +18,12 @@ use Rattle.board.proofs.Keeps.{laws, right}
 use Rattle.board.proofs.Lent.{now_laid, now_used, now_behind}
 use Rattle.board.proofs.Told.{Tells, kept_of, slots_laid}
 
+-- its list is canonical, and blanks stand behind it
+pub tidy_of : {L : Type 0} (k : Kind L) → Lawful k → (was : Board L) → Tells k was → Tidy was.slots
+tidy_of k lawful was tells =
+    let kept = kept_of k was tells in
+    record { laid_out = slots_laid was; canonical = subst (λ v. Canonical 0 v (holding was).slots) (sym kept.floor_is) (right k lawful was.slots.floor (holding was) kept).0 }
+
 module _ {L : Type 0} (k : Kind L) (lawful : Lawful k) (same : L → L → Bool) (told : (a b : L) → Decides (same a b) (a ≡ b)) (was : Board L) (tells : Tells k was) (f : L → L) (from until : ℕ) (span : from < until)
     (enough : length (holding was).slots + (lacks from (holding was).slots + lacks until (holding was).slots) ≤ was.slots.room)
     (r : Bool) (is : SlotList L)
@@ -26,11 +32,8 @@ module _ {L : Type 0} (k : Kind L) (lawful : Lawful k) (same : L → L → Bool)
   kept : Kept k was.slots.floor (holding was)
   kept = kept_of k was tells
 
-  canonical : Canonical 0 was.slots.floor (records was.slots)
-  canonical = subst (λ v. Canonical 0 v (holding was).slots) (sym kept.floor_is) (right k lawful was.slots.floor (holding was) kept).0
-
   tidy : Tidy was.slots
-  tidy = record { laid_out = slots_laid was; canonical = canonical }
+  tidy = tidy_of k lawful was tells
 
   abbrev new : List (Slot L)
   new = edited same f from until was.slots.floor (records was.slots)
@@ -42,7 +45,7 @@ module _ {L : Type 0} (k : Kind L) (lawful : Lawful k) (same : L → L → Bool)
   rewritten = subst (λ b. Rewritten was.slots (cond b new (records was.slots)) is) changed (list tidy)
 
   fits : length new ≤ was.slots.room
-  fits = omega (arith, edited_short same told f from until was.slots.floor (records was.slots) span (canonical_ascending 0 was.slots.floor (records was.slots) canonical), enough)
+  fits = omega (arith, edited_short same told f from until was.slots.floor (records was.slots) span (canonical_ascending 0 was.slots.floor (records was.slots) tidy.canonical), enough)
 
   pub slots_floor : is.floor ≡ was.slots.floor
   slots_floor = rewritten.floor_is

@@ -61,7 +61,7 @@ module _ {L : Type 0} (k : Kind L) (was : Board L) (n place : ℕ) (placed : Pla
       let same : row ≡ r = some_is row r (sym (read_is n place live row placed read) ∙ e) in
       same_holding _ _ _ _ _ _ _ _ _ _ room_is refl (used ∙ ap (λ v. replaced n (row_of v.number v.booking s ∷ []) live) same) refl
 
-  pub restated : Lawful k → Tells k was → (s ≡ Blank → ⊥) → Outcome k was is was.slots was.next (with_state (holding was) n row s)
+  pub restated : Lawful k → Tells k was → (s ≡ Blank → ⊥) → Outcome k was is was.slots was.capacity was.horizon was.next (with_state (holding was) n row s)
   restated lawful told not_blank =
       let e = read_is n place live row placed read in
       let after = state_holding row e in

@@ -1,5 +1,5 @@
 -- What the search over a board's records finds is what the board's definition finds, and what is granted is then held. Assumes nothing.
-use Rattle.std.proofs.Common.{◌≡◌, ℕ, suc, ◌≤◌, true, leb, List, [], ◌∷◌, ◌++◌, Some, None, Ok, Err, Option, sym, refl, ap, ◌∙◌, ap₂, arith}
+use Rattle.std.proofs.Common.{◌≡◌, ℕ, suc, ◌≤◌, true, leb, List, [], ◌∷◌, ◌++◌, Some, None, Ok, Option, sym, refl, ap, ◌∙◌, arith}
 use Rattle.std.proofs.lemmas.Bool.{le-leb, and_from, eq-eqb, ne_eqb}
 use Rattle.slots.specs.Stepped.{at, Ascending, ascends}
 use Rattle.slots.specs.declared.slot.Slot.{Slot}
@@ -8,20 +8,19 @@ use Rattle.units.specs.Kinds.{Kind, Lawful}
 use Rattle.planning.specs.Policies.{Preference, found}
 use Rattle.planning.specs.declared.found.Found.{Found}
 use Rattle.planning.specs.declared.request.Request.{Request}
-use Rattle.bookings.specs.Grants.{booked, booking_of}
+use Rattle.bookings.specs.Grants.{booking_of}
 use Rattle.bookings.specs.Rows.{Numbered, numbered, row_of}
 use Rattle.bookings.specs.declared.booking.Booking.{Booking}
 use Rattle.bookings.specs.declared.event.Event.TheVariants.{Confirm, Release}
 use Rattle.bookings.specs.declared.row.Row.{Row}
 use Rattle.bookings.specs.declared.row.State.TheVariants.{Held}
-use Rattle.bookings.specs.declared.refusal.Refusal.{Refusal}
-use Rattle.bookings.specs.declared.refusal.Refusal.TheVariants.{NoGap}
-use Rattle.board.specs.Calls.{Holding, hold, hold_check, found_on, hold_answer, hold_after, move_answer, answer, after, with_booking}
+use Rattle.board.specs.Calls.{Holding, found_on, move_answer, with_booking}
 use Rattle.board.specs.Keeping.{Kept}
-use Rattle.board.specs.Results.{hold_result, grant_of, Takes}
+use Rattle.board.specs.Results.{grant_of, Takes}
+use Rattle.board.specs.Seeking.{Sought}
 use Rattle.board.proofs.Keeps.{right}
 
-ascending_test : {L : Type 0} (low : ℕ) (xs : List (Slot L)) → Ascending low xs → ascends low xs ≡ true
+pub ascending_test : {L : Type 0} (low : ℕ) (xs : List (Slot L)) → Ascending low xs → ascends low xs ≡ true
 ascending_test low [] h = refl
 ascending_test low (x ∷ xs) h = and_from (leb low x.minute) (ascends (suc x.minute) xs) (le-leb _ _ h.0) (ascending_test (suc x.minute) xs h.1)
 
@@ -49,17 +48,7 @@ module _ {L : Type 0} (k : Kind L) (lawful : Lawful k) (floor : L) (board : Hold
       let tidy = ascending_test 0 board.slots (canonical_ascending 0 k.nothing board.slots (right k lawful floor board kept).0) in
       ap (booking_of request) (finds (ap (ascends 0) all ∙ tidy) ∙ ap (λ ys. found k board.book.capacity policy board.book.horizon (at k.nothing ys) request ys) all)
 
-  module _ (free : hold_check board.book request ≡ None) where
-    -- by what the search found
-    pub hold_is : (o : Option Refusal) (x : Option (Booking L)) → hold_check board.book request ≡ o → found_on k board request policy ≡ x → (answer k board (hold request policy) ≡ hold_answer board o x) × (after k board (hold request policy) ≡ hold_after k board o x)
-    hold_is o x e f = (ap₂ (hold_answer board) e f, ap₂ (hold_after k board) e f)
-
-    pub none_found : result ≡ None → (Err NoGap ≡ hold_result (answer k board (hold request policy))) × (board ≡ after k board (hold request policy))
-    none_found e = let is = hold_is None None free (sym search_is ∙ ap (booking_of request) e) in (ap hold_result (sym is.0), sym is.1)
-
-    pub some_found : (f : Found L) → result ≡ Some f → let x = booked request f.rectangle.start f.claim in (found_on k board request policy ≡ Some x) × (Ok (grant_of board.book.next x) ≡ hold_result (answer k board (hold request policy))) × (with_booking k board x ≡ after k board (hold request policy))
-    some_found f e =
-        let x = booked request f.rectangle.start f.claim in
-        let there = sym search_is ∙ ap (booking_of request) e in
-        let is = hold_is None (Some x) free there in
-        (there, ap hold_result (sym is.0), sym is.1)
+-- by what it found
+pub sought_is : {L : Type 0} (k : Kind L) (board : Holding L) (request : Request) (policy : Preference) (result : Option (Found L)) → booking_of request result ≡ found_on k board request policy → Sought k board request policy result
+sought_is k board request policy None e = sym e
+sought_is k board request policy (Some f) e = (sym e, record { policy = policy; is = sym e })

@@ -8,10 +8,15 @@ use Rattle.bookings.specs.Table.{Fate, becomes, leaves, barred, fate}
 use Rattle.bookings.specs.declared.booking.Booking.{Booking}
 use Rattle.bookings.specs.declared.event.Event.{Event}
 use Rattle.bookings.specs.declared.refusal.Refusal.{Refusal}
+use Rattle.bookings.specs.declared.refusal.Refusal.TheVariants.{BookingStands}
 use Rattle.bookings.specs.declared.row.Row.{Row}
 use Rattle.bookings.specs.declared.row.State.TheVariants.{Held}
 use Rattle.bookings.proofs.Found.{some_none, some_is}
+use Rattle.boardfile.specs.Files.{book_in}
+use Rattle.boardfile.specs.Filings.{Filing}
 use Rattle.board.specs.Calls.{Holding, Call, hold, move, hold_check, found_on, hold_after, fate_after, move_after, after}
+use Rattle.board.specs.Files.{load_refusal, load_check, with_book, unless, load_after}
+use Rattle.board.specs.FileTheorems.{LoadsLeave}
 use Rattle.board.specs.Theorems.{Moves, StayPut}
 
 module _ {L : Type 0} where
@@ -108,5 +113,19 @@ module _ {L : Type 0} where
     stood (hold request policy) r i = held_stood r (hold_check board.book request) (found_on k board request policy) i
     stood (move event n) r i = moved_stood event n r (numbered n board.book.rows) refl i
 
+    -- where a booking stands, a load changes nothing
+    refused_while : (f : Filing L) (bytes : List ℕ) (rows : List (Row L)) (r : Row L) → In r rows → load_refusal k f board.book.room rows bytes ≡ Some BookingStands
+    refused_while f bytes [] r i = absurd i
+    refused_while f bytes (x ∷ rows) r i = refl
+
+    pub load_refused : (f : Filing L) (bytes : List ℕ) (r : Row L) → In r board.book.rows → load_check k f board bytes ≡ Some BookingStands
+    load_refused f bytes r i = refused_while f bytes board.book.rows r i
+
+    all_left : (f : Filing L) (bytes : List ℕ) (r : Row L) → In r board.book.rows → load_after k f board bytes ≡ board
+    all_left f bytes r i = ap (λ o. unless o (with_book k (book_in f board.book.room bytes)) board) (load_refused f bytes r i)
+
 pub stay_put : {L : Type 0} → StayPut L
 stay_put = record { others_stay = others; none_changes = stood }
+
+pub loads_leave : {L : Type 0} → LoadsLeave L
+loads_leave k f board bytes r i = all_left k board f bytes r i

@@ -14,8 +14,10 @@ use Rattle.bookings.specs.declared.row.State.{State}
 use Rattle.bookings.specs.declared.row.State.TheVariants.{Blank, Confirmed, UnderWay, Held}
 use Rattle.board.specs.Calls.{Holding, Call, hold, move, hold_check, found_on, hold_after, fate_after, move_after, after}
 use Rattle.board.specs.Keeping.{Kept}
+use Rattle.board.specs.FileTheorems.{LoadsKeep}
 use Rattle.board.specs.Theorems.{CallsKeep}
 use Rattle.board.proofs.Keeps.{made_kept, given_kept, state_kept, gone_kept}
+use Rattle.board.proofs.Loads.{load_kept}
 
 -- no event makes a booking's row blank
 pub not_made_blank : (event : Event) (s t : State) → fate event s ≡ becomes t → t ≡ Blank → ⊥
@@ -66,4 +68,10 @@ module _ {L : Type 0} (k : Kind L) (lawful : Lawful k) (floor : L) (board : Hold
   after_kept (move event n) = move_kept event n
 
 pub calls_keep : {L : Type 0} → CallsKeep L
-calls_keep = record { new = λ k lawful c h rows records. made_kept k lawful k.nothing c h rows records refl; next = λ k lawful board kept call. after_kept k lawful k.nothing board kept call }
+calls_keep = record {
+  new = λ k lawful c h rows records. made_kept k lawful k.nothing c h rows records refl;
+  next = λ k lawful board kept call. after_kept k lawful k.nothing board kept call;
+}
+
+pub loads_keep : {L : Type 0} → LoadsKeep L
+loads_keep k lawful f board kept bytes = load_kept k f lawful k.nothing board kept bytes

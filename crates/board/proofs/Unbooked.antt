@@ -73,7 +73,7 @@ module _ {L : Type 0} (k : Kind L) (was : Board L) (n place : ℕ) (placed : Pla
     enough : length (holding was).slots + (lacks row.booking.start (holding was).slots + lacks row.booking.end (holding was).slots) ≤ was.slots.room
     enough = omega (arith, room_to_remove k lawful was.slots.floor (holding was) (kept_of k was tells) n row numbered_is, was.slots_room)
 
-    pub unbooked : Outcome k was is slots was.next (without_row k (holding was) n row)
+    pub unbooked : Outcome k was is slots was.capacity was.horizon was.next (without_row k (holding was) n row)
     unbooked =
         let f = k.lift row.booking.claim in
         let after = same_holding was.capacity was.horizon was.next was.next is.room was.rows.room (take is.count is.rows.now) new (take slots.used slots.slots.now) _ room_is refl gone_used (slots_now k lawful same told was tells f row.booking.start row.booking.end span enough r slots answer list) in

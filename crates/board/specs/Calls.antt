@@ -1,5 +1,5 @@
 -- The calls of a board: what each answers, and the board that it leaves. Assumes nothing.
-use Rattle.std.specs.Prelude.{ℕ, suc, ◌+◌, ◌*◌, ◌<◌, ◌≤◌, Bool, cond, not, ◌||◌, List, [], ◌∷◌, ◌++◌, length, Some, None, Option, ◌==◌, nat_le, nat_lt}
+use Rattle.std.specs.Prelude.{ℕ, suc, ◌+◌, ◌*◌, ◌<◌, ◌≤◌, Bool, not, ◌||◌, List, [], ◌∷◌, ◌++◌, length, Some, None, Option, ◌==◌, nat_le, nat_lt}
 use Rattle.slots.specs.Stepped.{at, edited}
 use Rattle.slots.specs.declared.slot.Slot.{Slot}
 use Rattle.units.specs.Kinds.{Kind}
@@ -9,6 +9,7 @@ use Rattle.planning.specs.declared.request.Request.{Request}
 use Rattle.bookings.specs.Rows.{row_of, Book, with_rows, numbered, replaced}
 use Rattle.bookings.specs.Table.{Fate, becomes, leaves, barred, fate}
 use Rattle.bookings.specs.Grants.{booking_of}
+use Rattle.bookings.specs.Refusals.{first_that_applies}
 use Rattle.bookings.specs.declared.booking.Booking.{Booking}
 use Rattle.bookings.specs.declared.event.Event.{Event}
 use Rattle.bookings.specs.declared.event.Event.TheVariants.{Confirm, Release, Cancel, Begin, Finish}
@@ -35,8 +36,7 @@ pub data Answer (L : Type 0) : Type 0 where
 
 -- the first of the checks that applies
 abbrev pub first_check : List (Bool × Refusal) → Option Refusal
-first_check [] = None
-first_check (check ∷ checks) = cond check.0 (Some check.1) (first_check checks)
+first_check = first_that_applies
 
 -- MAKING
 

@@ -1,7 +1,12 @@
 pub mod Calls
+pub mod Files
 pub mod Keeping
+pub mod Adding
+pub mod FileSteps
 pub mod Shifts
 pub mod Places
 pub mod Theorems
+pub mod FileTheorems
 pub mod Views
 pub mod Results
+pub mod Seeking

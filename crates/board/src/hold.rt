@@ -1,15 +1,13 @@
 // Holding a booking for a request.
-ghost use Rattle.std.specs.Prelude.{◌≡◌, ◌+◌, Some, None, nat_lt};
-ghost use Rattle.planning.specs.Policies.{Preference};
+ghost use Rattle.std.specs.Prelude.{◌≡◌, ◌+◌, ◌≤◌, None, Ok, nat_lt};
 ghost use Rattle.bookings.specs.Grants.{booked};
-ghost use Rattle.board.specs.Calls.{hold, hold_check, answer, after, found_on, with_booking};
+ghost use Rattle.board.specs.Calls.{hold, hold_check, answer, after, with_booking};
 ghost use Rattle.board.specs.Results.{hold_result, grant_of, Takes};
+ghost use Rattle.board.specs.Seeking.{Findable, Sought};
 ghost use Rattle.board.specs.Views.{holding, behind};
 
 use crate::board::Board;
-use crate::changes::Put;
 use crate::grant::Grant;
-use crate::setup::witness_of;
 use crate::token::HoldToken;
 use bookings::booking::Booking;
 use bookings::refusal::Refusal;
@@ -27,6 +25,14 @@ fn ends_late(request: Request) -> bool
     ensures { result ≡ nat_lt request.deadline (request.ready + request.duration) }
 {
     u64::from(request.deadline) < u64::from(request.ready) + u64::from(request.duration)
+}
+
+// The number after this one.
+fn number_after(number: u32) -> u32
+    requires { number ≤ 99999 }
+    ensures { result ≡ number + 1 }
+{
+    number + 1
 }
 
 impl<'m, L: Units> Board<'m, L> {
@@ -52,11 +58,26 @@ impl<'m, L: Units> Board<'m, L> {
         None
     }
 
+    // The start and the claim that the search over the slot list finds.
+    fn sought<P: Policy>(&self, request: Request, policy: &P) -> Option<Found<L>>
+        ensures { Sought L.kind (holding self.now) request (P.preference policy.now) result }
+    {
+        self.witness.told();
+        find_claim(
+            self.slots.records(),
+            self.capacity,
+            self.horizon,
+            request,
+            policy,
+        )
+    }
+
     // Enters the booking that was found under the next number, and puts its claim on the slots of its span.
     fn enter(&mut self, request: Request, found: Found<L>) -> Grant<L>
-        requires { (hold_check (holding self.old).book request ≡ None) × (((policy : Preference) × (found_on L.kind (holding self.old) request policy ≡ Some (booked request found.rectangle.start found.claim)))) }
+        requires { (hold_check (holding self.old).book request ≡ None) × (Findable L.kind (holding self.old) request (booked request found.rectangle.start found.claim)) }
         ensures answer { result ≡ grant_of self.old.next (booked request found.rectangle.start found.claim) }
         ensures board { holding self.new ≡ with_booking L.kind (holding self.old) (booked request found.rectangle.start found.claim) }
+        ensures takes { Takes L.kind (holding self.new) (Ok result) }
         ensures rest { behind self.new ≡ behind self.old }
         ensures lent { (self.new.rows.rows.ghost_name ≡ self.old.rows.rows.ghost_name) × (self.new.slots.slots.ghost_name ≡ self.old.slots.slots.ghost_name) }
     {
@@ -65,24 +86,12 @@ impl<'m, L: Units> Board<'m, L> {
         let start = found.rectangle.start;
         let end = start + request.duration;
         let claim = found.claim;
-        let put = Put {
-            capacity: self.capacity,
-            claim,
-        };
-        self.rows.push(Row {
+        let row = Row {
             number,
             booking: Booking { start, end, claim },
             state: State::Held,
-        });
-        let _ = self.slots.change(start, end, &put);
-        self.next += 1;
-        self.witness = witness_of(
-            self.capacity,
-            self.horizon,
-            self.next,
-            &self.rows,
-            &self.slots,
-        );
+        };
+        self.add(row, number_after(number));
         Grant {
             number,
             start,
@@ -106,14 +115,7 @@ impl<'m, L: Units> Board<'m, L> {
         if let Some(refusal) = self.hold_check(request) {
             return Err(refusal);
         }
-        self.witness.told();
-        match find_claim(
-            self.slots.records(),
-            self.capacity,
-            self.horizon,
-            request,
-            policy,
-        ) {
+        match self.sought(request, policy) {
             None => Err(Refusal::NoGap),
             Some(found) => Ok(self.enter(request, found)),
         }

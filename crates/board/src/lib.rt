@@ -1,13 +1,17 @@
 //! The booking board: rows and slot list in lent memory, and the calls on them.
 #![tactic(auto)]
 
+mod add;
 pub mod board;
 pub mod changes;
 pub mod grant;
 pub mod hold;
+pub mod load;
 pub mod moves;
 pub mod reads;
+mod reset;
 pub mod rows;
+pub mod save;
 pub mod setup;
 mod shift;
 pub mod theory;

@@ -1,7 +1,7 @@
 // Reading a board, and handing its memory back.
 ghost use Rattle.std.specs.Prelude.{◌≡◌};
 ghost use Rattle.slots.specs.Memory.{laid};
-ghost use Rattle.slots.specs.Stepped.{slot_of};
+ghost use Rattle.slots.specs.Stepped.{at, slot_of};
 ghost use Rattle.bookings.specs.Rows.{blank_row, bookings};
 ghost use Rattle.bookings.specs.Bookings.{load_at};
 ghost use Rattle.board.specs.Keeping.{Kept};
@@ -62,12 +62,29 @@ impl<'m, L: Units> Board<'m, L> {
         self.slots.records()
     }
 
+    // The slot list says at `minute` what the standing bookings make.
+    fn agrees_at(&self, minute: u32)
+        ensures { at self.now.slots.floor (holding self.now).slots minute ≡ load_at L.kind self.now.capacity (bookings (holding self.now).book.rows) minute }
+    {
+        let witness = &self.witness;
+        witness.told();
+    }
+
     // The load at `minute`: what the standing bookings make.
     pub fn load_at(&self, minute: u32) -> L
         ensures { result ≡ load_at L.kind self.now.capacity (bookings (holding self.now).book.rows) minute }
     {
-        self.witness.told();
+        self.agrees_at(minute);
         self.slots.at(minute)
+    }
+
+    // The lent memory is the rows and the slot list, with blanks behind them.
+    fn lies_in_order(&self)
+        ensures rows { self.now.rows.rows.now ≡ laid (blank_row L.kind.nothing) self.now.rows.room (holding self.now).book.rows self.now.rows.rows.now }
+        ensures slots { self.now.slots.slots.now ≡ laid (slot_of 0 L.kind.nothing) self.now.slots.room (holding self.now).slots self.now.slots.slots.now }
+    {
+        let witness = &self.witness;
+        witness.told();
     }
 
     // Hands the memory back: the rows and the slot list, blanks behind them, and what was not the board's as it was.
@@ -76,7 +93,7 @@ impl<'m, L: Units> Board<'m, L> {
         ensures slots { result.1.now ≡ laid (slot_of 0 L.kind.nothing) self.entry.slots.room (holding self.entry).slots self.entry.slots.slots.now }
         ensures lent { (result.0.ghost_name ≡ self.entry.rows.rows.ghost_name) × (result.1.ghost_name ≡ self.entry.slots.slots.ghost_name) }
     {
-        self.witness.told();
+        self.lies_in_order();
         let Board {
             capacity: _,
             horizon: _,

@@ -1,7 +1,7 @@
 // The rows of a board in lent memory: the first `room` are its own, and the first `count` of them hold bookings.
 ghost use Rattle.std.specs.Prelude.{◌≡◌, ◌+◌, ◌-◌, ◌<◌, ◌≤◌, [], length, take, slice_index_or, slice_set};
 ghost use Rattle.slots.specs.Memory.{laid};
-ghost use Rattle.board.specs.Shifts.{closed};
+ghost use Rattle.board.specs.Shifts.{closed, blanked};
 ghost use Rattle.board.specs.Places.{Placed};
 
 use crate::shift::{close_at, fill_first, put_at, read_at};
@@ -104,5 +104,18 @@ impl<'m, L: Copy> RowList<'m, L> {
         let count = self.count;
         close_at(self.rows, i, count, blank);
         self.count -= 1;
+    }
+
+    // Takes all rows out: `blank` stands in their places.
+    pub(crate) fn clear(&mut self, blank: Row<L>)
+        requires { self.old.count ≤ length self.old.rows.now }
+        ensures rows { self.new.rows.now ≡ blanked self.old.count blank self.old.rows.now }
+        ensures count { self.new.count ≡ 0 }
+        ensures room { self.new.room ≡ self.old.room }
+        ensures lent { self.new.rows.ghost_name ≡ self.old.rows.ghost_name }
+    {
+        let count = self.count;
+        fill_first(self.rows, count, blank);
+        self.count = 0;
     }
 }

@@ -44,7 +44,7 @@ pub fn set_up_check<L: Units>(
 }
 
 // A row that holds no booking.
-pub(crate) fn blank_row<L: Copy>(nothing: L) -> Row<L>
+pub fn blank_row<L: Copy>(nothing: L) -> Row<L>
     ensures { result ≡ blank_row nothing }
 {
     Row {

@@ -1,5 +1,5 @@
 -- Rows by their numbers: what is found, replaced and taken out. Assumes nothing.
-use Rattle.std.proofs.Common.{◌≡◌, ℕ, suc, ◌≤◌, Bool, true, false, cond, eqb, List, [], ◌∷◌, ◌++◌, length, Some, None, sym, refl, ap, ◌∙◌, subst, inl, inr, append-nil, arith}
+use Rattle.std.proofs.Common.{◌≡◌, ℕ, suc, ◌<◌, ◌≤◌, Bool, true, false, cond, eqb, List, [], ◌∷◌, ◌++◌, length, Some, None, sym, refl, ap, ◌∙◌, subst, inl, inr, append-nil, arith}
 use Rattle.std.proofs.lemmas.Bool.{eq-eqb, ne_eqb}
 use Rattle.slots.specs.Lists.{In, Reordered, none_left, keep, swap, after}
 use Rattle.bookings.specs.Bookings.{Within}
@@ -49,9 +49,9 @@ module _ {L : Type 0} where
       go true rest q = ap (λ y. y ∷ bookings rows) (b ∙ ap (λ y. y.booking) (sym (some_is x r q)))
       go false rest q = ap (λ bs. x.booking ∷ bs) (rest q)
 
-  pub numbers_more : (low next : ℕ) (rows : List (Row L)) (r : Row L) → r.number ≡ next → Numbered low next rows → Numbered low (suc next) (rows ++ (r ∷ []))
-  numbers_more low next [] r e h = (omega arith, omega arith)
-  numbers_more low next (x ∷ rows) r e h = (h.0, numbers_more (suc x.number) next rows r e h.1)
+  pub numbers_more : (low high next : ℕ) (rows : List (Row L)) (r : Row L) → high ≤ r.number → r.number < next → Numbered low high rows → Numbered low next (rows ++ (r ∷ []))
+  numbers_more low high next [] r l u h = (omega arith, omega arith)
+  numbers_more low high next (x ∷ rows) r l u h = (h.0, numbers_more (suc x.number) high next rows r l u h.1)
 
   lowered : (low high next : ℕ) (rows : List (Row L)) → low ≤ high → Numbered high next rows → Numbered low next rows
   lowered low high next [] l h = omega arith

@@ -1,5 +1,39 @@
 ghost use Rattle.std.specs.Prelude.{◌≡◌};
-ghost use Rattle.bookings.specs.Refusals.{number};
+ghost use Rattle.bookings.specs.Refusals.{number, fault_number};
+ghost use Rattle.bookings.specs.declared.refusal.Refusal.TheVariants.{File};
+
+// What is wrong with a board file; rows are counted from 0.
+#[derive(Clone, Copy)]
+pub enum FileFault {
+    // Fewer bytes than a header has.
+    Short,
+    // A field of the header other than the count has a value that is not allowed.
+    Header,
+    // More or fewer bytes than the count asks for.
+    Length,
+    // More rows than the board has room for.
+    Room,
+    // The row breaks a rule for rows.
+    Row(usize),
+    // At some minute of its span, the row's claim is not clear of the rows above it.
+    Clash(usize),
+}
+
+impl FileFault {
+    // The number of the refusal that the fault leads to.
+    pub fn number(self) -> u32
+        ensures { result ≡ fault_number self }
+    {
+        match self {
+            FileFault::Short => 14,
+            FileFault::Header => 15,
+            FileFault::Length => 16,
+            FileFault::Room => 17,
+            FileFault::Row(_) => 18,
+            FileFault::Clash(_) => 19,
+        }
+    }
+}
 
 // Why a call is refused.
 #[derive(Clone, Copy)]
@@ -19,6 +53,12 @@ pub enum Refusal {
     NotHeld,
     NoSuchBooking,
     WrongState,
+    // Loading: a booking stands; the file is at fault.
+    BookingStands,
+    File(FileFault),
+    // Saving: a held booking stands, or the board is closed; the memory is shorter than the file.
+    NotSettled,
+    Buffer,
     // Reading a sheet: a line of no known form; more bytes than a sheet may have.
     BadLine,
     SheetTooLong,
@@ -42,8 +82,21 @@ impl Refusal {
             Refusal::NotHeld => 10,
             Refusal::NoSuchBooking => 11,
             Refusal::WrongState => 12,
+            Refusal::BookingStands => 13,
+            Refusal::File(fault) => fault.number(),
+            Refusal::NotSettled => 20,
+            Refusal::Buffer => 21,
             Refusal::BadLine => 22,
             Refusal::SheetTooLong => 23,
         }
+    }
+}
+
+// A file that is at fault is refused for it.
+impl From<FileFault> for Refusal {
+    ghost from_gives = { λ fault why. why ≡ File fault };
+
+    fn from(value: FileFault) -> Refusal {
+        Refusal::File(value)
     }
 }

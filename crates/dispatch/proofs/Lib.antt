@@ -1,2 +1,4 @@
+pub mod CrewLawful
 pub mod Held
 pub mod Turns
+mod Called

@@ -3,6 +3,7 @@ ghost use Rattle.std.specs.Prelude.{◌≡◌, ◌++◌, map, IfOk, string_bytes
 ghost use Rattle.board.specs.Views.{holding};
 ghost use Rattle.sheet.specs.Lines.{lines};
 ghost use Rattle.sheet.specs.Orders.{content};
+ghost use Rattle.dispatch.specs.Calling.{CallsAreALine};
 ghost use Rattle.dispatch.specs.Running.{texts, sheet_text};
 
 use crate::entry::run_line;
@@ -37,10 +38,17 @@ fn run_lines(board: &mut Board<'_, Crew>, sheet: &[u8], out: &mut String) -> Res
     Ok(())
 }
 
+// The calls that a sheet makes are a line of calls, on which the board keeps its promise. It does nothing: what it tells is for the contract below.
+fn calls_are_a_line(sheet: &[u8])
+    ensures { CallsAreALine (map content (lines sheet.now)) }
+{}
+
 // All that a sheet is answered, on a fresh board of 8 mechanics, bookings that end by minute 10,080, and 64 rows.
 pub fn run(heap: Global, sheet: &[u8]) -> Result<String, AllocError>
-    ensures { IfOk result (λ text. string_bytes text ≡ sheet_text sheet.now) }
+    ensures text { IfOk result (λ text. string_bytes text ≡ sheet_text sheet.now) }
+    ensures line { CallsAreALine (map content (lines sheet.now)) }
 {
+    calls_are_a_line(sheet);
     if MOST_BYTES < sheet.len() {
         let refused = Answer::Refused(Refusal::SheetTooLong.number());
         return refused.text(heap, &[]);

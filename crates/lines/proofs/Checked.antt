@@ -1,19 +1,11 @@
 -- What no check stands against: none applies to a request that may be asked, and none says that there is no gap. Assumes nothing.
-use Rattle.std.proofs.Common.{◌≡◌, ℕ, ◌+◌, ◌≤◌, Bool, true, false, cond, not, ◌||◌, eqb, ltb, leb, List, [], ◌∷◌, length, Some, None, refl, arith}
+use Rattle.std.proofs.Common.{◌≡◌, ℕ, ◌+◌, ◌≤◌, Bool, true, false, cond, not, ◌||◌, eqb, ltb, leb, length, Some, None, arith}
 use Rattle.std.proofs.lemmas.Bool.{le-ltb, le-leb, lt-leb, ne_eqb, or_from, not_from_true}
 use Rattle.planning.specs.declared.request.Request.{Request}
 use Rattle.bookings.specs.Rows.{Book}
-use Rattle.bookings.specs.declared.refusal.Refusal.{Refusal}
 use Rattle.bookings.specs.declared.refusal.Refusal.TheVariants.{Duration, Wanted, Window, Full, NumbersUsedUp, NoGap}
-use Rattle.board.specs.Calls.{first_check, hold_checks, hold_check, Askable}
-
-abbrev Passed : List (Bool × Refusal) → Type 0
-Passed [] = Unit {0}
-Passed (t ∷ ts) = (t.0 ≡ false) × Passed ts
-
-first_none : (ts : List (Bool × Refusal)) → Passed ts → first_check ts ≡ None
-first_none [] p = refl
-first_none (t ∷ ts) p = rw p.0 (first_none ts p.1)
+use Rattle.board.specs.Calls.{hold_checks, hold_check, Askable}
+use Rattle.board.proofs.Checks.{first_none}
 
 not_zero : (n : ℕ) → 1 ≤ n → eqb n 0 ≡ false
 not_zero n l = ne_eqb n 0 (λ e. omega arith)

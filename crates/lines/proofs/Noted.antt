@@ -16,7 +16,7 @@ use Rattle.lines.specs.Ledger.{started, left_of, treated, hold_noted, noted, led
 use Rattle.lines.proofs.Entries.{treated_none, treated_some, put_back}
 
 module _ {L : Type 0} (k : Kind L) where
-  made_as_noted : (c h rows records : ℕ) → (made k c h rows records).book ≡ started c h rows (set_up_check k c h rows records)
+  pub made_as_noted : (c h rows records : ℕ) → (made k c h rows records).book ≡ started c h rows (set_up_check k c h rows records)
   made_as_noted c h rows records = go (set_up_check k c h rows records)
     where
       go : (o : Option Refusal) → (elim o as (λ _. Holding L) [ None ↦ opened c h rows | Some _ ↦ opened 0 0 0 ]).book ≡ started c h rows o
@@ -41,7 +41,7 @@ module _ {L : Type 0} (k : Kind L) where
         go None e = ap (λ rows. with_rows rows board.book) (sym (treated_none event n board.book.rows e))
         go (Some r) e = by_fate r (fate event r.state) (treated_some event n board.book.rows r e) e
 
-    as_noted : (call : Call L) → (after k board call).book ≡ noted call (answer k board call) board.book
+    pub as_noted : (call : Call L) → (after k board call).book ≡ noted call (answer k board call) board.book
     as_noted (hold request policy) = hold_as_noted (hold_check board.book request) (found_on k board request policy)
     as_noted (move event n) = move_as_noted event n
 

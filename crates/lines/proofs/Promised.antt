@@ -8,7 +8,7 @@ use Rattle.units.specs.Kinds.{Kind, Laws, Lawful}
 use Rattle.planning.specs.Policies.{Preference, found}
 use Rattle.planning.specs.declared.request.Request.{Request}
 use Rattle.bookings.specs.Bookings.{standing, load_at, slot_list, Sound, FitsBeside}
-use Rattle.bookings.specs.Rows.{bookings}
+use Rattle.bookings.specs.Rows.{Book, bookings}
 use Rattle.bookings.specs.Table.{Fate, becomes, leaves, barred, fate}
 use Rattle.bookings.specs.Grants.{booking_of}
 use Rattle.bookings.specs.declared.booking.Booking.{Booking}
@@ -122,13 +122,18 @@ module _ {L : Type 0} (k : Kind L) (lawful : Lawful k) (board : Holding L) (kept
 
   -- ALL OF IT, OF THE BOARD'S OWN BOOK
 
+  -- two boards with the same claims at each minute, each as often, have the same slot list
+  pub same_slots : (other : Holding L) → Kept k k.nothing other → c ≡ other.book.capacity → ((m : ℕ) → Reordered (standing bs m) (standing (bookings other.book.rows) m)) → board.slots ≡ other.slots
+  same_slots other kept-too same r =
+      let ds = bookings other.book.rows in
+      let too = right k lawful k.nothing other kept-too in
+      unique k.nothing 0 board.slots other.slots (right k lawful k.nothing board kept).0 too.0
+      (λ m. says m ∙ (order_is_free k c lawful_here k.nothing (standing bs m) (standing ds m) (r m) (kept.sound m)).1 ∙ ap (λ v. load_at k v ds m) same ∙ sym (too.1 m))
+
   one_list : (other : Line L) → c ≡ (ledger_of k other).capacity → ((m : ℕ) → Reordered (standing bs m) (standing (bookings (ledger_of k other).rows) m)) → board.slots ≡ (board_of k other).slots
-  one_list other same r =
-      let ds = bookings (ledger_of k other).rows in
-      let too = right k lawful k.nothing (board_of k other) (all_kept k lawful other) in
-      let say : (m : ℕ) → at k.nothing (board_of k other).slots m ≡ load_at k (ledger_of k other).capacity ds m = subst (λ book. (m : ℕ) → at k.nothing (board_of k other).slots m ≡ load_at k book.capacity (bookings book.rows) m) (book_is k other) too.1 in
-      unique k.nothing 0 board.slots (board_of k other).slots (right k lawful k.nothing board kept).0 too.0
-      (λ m. says m ∙ (order_is_free k c lawful_here k.nothing (standing bs m) (standing ds m) (r m) (kept.sound m)).1 ∙ ap (λ v. load_at k v ds m) same ∙ sym (say m))
+  one_list other =
+      let P : Book L → Type 0 = λ book. c ≡ book.capacity → ((m : ℕ) → Reordered (standing bs m) (standing (bookings book.rows) m)) → board.slots ≡ (board_of k other).slots in
+      subst P (book_is k other) (same_slots (board_of k other) (all_kept k lawful other))
 
   pub promised : PromiseBeside k board board.book
   promised = record {

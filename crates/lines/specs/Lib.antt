@@ -1,3 +1,5 @@
 pub mod Lines
 pub mod Ledger
 pub mod Promise
+pub mod FiledLines
+pub mod FiledPromise

@@ -9,4 +9,4 @@ pub mod request;
 #[cfg(test)]
 mod tests;
 pub mod theory;
-mod walk;
+pub mod walk;

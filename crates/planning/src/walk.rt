@@ -51,7 +51,7 @@ pub(crate) fn joined_on<L: Units>(here: L, after: &[Slot<L>], start: u32, durati
 }
 
 // The joined loads of the `duration` minutes from `start` on.
-pub(crate) fn joined_over<L: Units>(slots: &[Slot<L>], start: u32, duration: u32) -> L
+pub fn joined_over<L: Units>(slots: &[Slot<L>], start: u32, duration: u32) -> L
     ensures { ascends 0 slots.now ≡ true → result ≡ joined_over L.kind (at L.kind.nothing slots.now) start duration }
 {
     let (before, after) = slots.split_at(count_upto(slots, slots.len(), start));

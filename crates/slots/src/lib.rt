@@ -2,6 +2,7 @@
 #![tactic(auto)]
 
 pub mod change;
+pub mod clear;
 pub mod list;
 mod reads;
 pub mod slot;

@@ -1,5 +1,7 @@
-ghost use Rattle.std.specs.Prelude.{◌≡◌, ◌+◌, ◌<◌, ◌≤◌, length, take, drop, replicate};
+ghost use Rattle.std.specs.Prelude.{◌≡◌, ◌+◌, ◌<◌, ◌≤◌, [], length, take, drop, replicate};
 ghost use Rattle.std.proofs.Math.Seq.{paste};
+ghost use Rattle.slots.specs.Memory.{laid};
+ghost use Rattle.slots.specs.Stepped.{slot_of};
 ghost use Rattle.slots.specs.Steps.{put_of, put_in, both_in, opened, over, remade, changed_from};
 
 use crate::change::Change;
@@ -96,4 +98,16 @@ pub(crate) fn fill_from<T: Copy>(xs: &mut [T], from: usize, n: usize, x: T)
     for i in 0..n {
         xs[from + i] = x;
     }
+}
+
+// Blanks the first `n` records.
+pub(crate) fn blank_first<V: Copy>(slots: &mut [Slot<V>], n: usize, floor: V)
+    requires { n ≤ length slots.old }
+    ensures { slots.new ≡ laid (slot_of 0 floor) n [] slots.old }
+{
+    let blank = Slot {
+        minute: 0,
+        value: floor,
+    };
+    fill_from(slots, 0, n, blank);
 }

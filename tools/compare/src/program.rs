@@ -19,7 +19,7 @@ fn root() -> PathBuf {
 pub fn programs() -> Vec<Program> {
     let at = |variable: &str, usual: &str| std::env::var_os(variable).map_or(root().join(usual), PathBuf::from);
     vec![
-        Program { name: "callsheet", path: at("CALLSHEET", "target/bin/callsheet") },
+        Program { name: "callsheet", path: at("CALLSHEET", "crates/callsheet/out/callsheet") },
         Program { name: "peer", path: at("PEER", "tools/target/release/peer") },
     ]
 }

@@ -58,7 +58,7 @@ fn row(proved: &Path, peer: &Path, rows: u32) -> Outcome<()> {
 }
 
 pub fn table() -> Outcome<()> {
-    let proved: PathBuf = path("GROWTH", "target/bin/growth");
+    let proved: PathBuf = path("GROWTH", "crates/growth/out/growth");
     let peer = path("PEER", "tools/target/release/peer");
     println!("| rows | records | instructions, growth | instructions, peer | ratio | earliest start, growth (ns) | peer (ns) | largest product, growth (ns) | peer (ns) |");
     println!("|---|---|---|---|---|---|---|---|---|");

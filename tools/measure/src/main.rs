@@ -28,7 +28,7 @@ fn row(jobs: &[Job; 2], sheet: &Sheet, file: &Path, start: [u64; 2]) -> Outcome<
 
 fn sheet_table(folder: &Path) -> Outcome<()> {
     let job = |variable, usual| Job { path: path(variable, usual), words: Vec::new() };
-    let jobs = [job("CALLSHEET", "target/bin/callsheet"), job("PEER", "tools/target/release/peer")];
+    let jobs = [job("CALLSHEET", "crates/callsheet/out/callsheet"), job("PEER", "tools/target/release/peer")];
     fs::create_dir_all(folder)?;
     let file = folder.join("empty.sheet");
     fs::write(&file, "")?;

@@ -1,60 +1,47 @@
-use Rattle.std.proofs.Common.{◌+◌, ◌≤◌, refl, arith}
+use Rattle.std.proofs.Common.{◌≡◌, ℕ, suc, Ok, sym, refl, ap, ◌∙◌, subst, add-one, arith}
 use Rattle.bookings.specs.Grants.{booked}
-use Rattle.board.proofs.Booked.{ends_early, entered_now}
-use Rattle.board.proofs.Outcomes.{in_use}
-use Rattle.board.proofs.Told.{same_behind}
+use Rattle.bookings.specs.Rows.{row_of}
+use Rattle.bookings.specs.declared.row.State.TheVariants.{Held}
+use Rattle.board.specs.Adding.{MayEnter, with_row}
+use Rattle.board.specs.Results.{grant_of, Takes}
+use Rattle.board.specs.Views.{holding}
+use Rattle.board.proofs.Keeps.{best, given_in_time, given_enters}
+use Rattle.board.proofs.Searched.{granted_taken}
+use Rattle.board.proofs.Told.{kept_of}
 use Rattle.board.proofs.board.Board.enter.Goals as goal
 
 pub overflow_add-end : goal.overflow_add-end
 overflow_add-end g c =
+    let k = g.L.Units.kind in
+    let was = c.args.self.now in
     let x = booked c.args.request c.args.found.rectangle.start c.args.found.claim in
-    let early : c.args.found.rectangle.start + c.args.request.duration ≤ 1048576 = ends_early g.L.Units.kind g.met.L.Units.keeps c.args.self.now c.told.ensures c.args.request c.requires.1.0 c.requires.0 x c.requires.1.1 in
+    let kept = kept_of k was c.told.ensures in
+    let early = given_in_time k g.met.L.Units.keeps was.slots.floor (holding was) kept c.args.request c.requires.1.policy c.requires.0 x c.requires.1.is in
+    let latest = kept.horizon_fits in
     omega arith
 
-pub witness_of-requires : goal.witness_of-requires
-witness_of-requires g c =
+pub add-requires : goal.add-requires
+add-requires g c =
+    let k = g.L.Units.kind in
     let was = c.args.self.now in
     let x = booked c.args.request c.args.found.rectangle.start c.args.found.claim in
-    let push = c.push.ensures in
-    let did = c.change.ensures in
-    let now = entered_now g.L.Units.kind g.met.L.Units.keeps was c.told.ensures c.args.request c.requires.1.0 c.requires.0 x c.requires.1.1 c.push.new.self push.rows push.count push.room g.L.Value.alike g.met.L.Value.told c.change.result c.change.new.self did.answer did.list in
-    (in_use _ _ _ _ now.rows_laid, (in_use _ _ _ _ now.slots_laid, now.kept))
-
-pub invariant_of-self : goal.invariant_of-self
-invariant_of-self g c =
-    let was = c.args.self.now in
-    let x = booked c.args.request c.args.found.rectangle.start c.args.found.claim in
-    let push = c.push.ensures in
-    let did = c.change.ensures in
-    let now = entered_now g.L.Units.kind g.met.L.Units.keeps was c.told.ensures c.args.request c.requires.1.0 c.requires.0 x c.requires.1.1 c.push.new.self push.rows push.count push.room g.L.Value.alike g.met.L.Value.told c.change.result c.change.new.self did.answer did.list in
-    let told = c.witness_of.ensures in
-    record {
-      rows_used = now.rows_laid.used_fits;
-      rows_fit = now.rows_laid.room_fits;
-      rows_blank = now.rows_laid.blank_behind;
-      slots_room = now.rooms;
-      slots_used = now.slots_laid.used_fits;
-      slots_fit = now.slots_laid.room_fits;
-      slots_blank = now.slots_laid.blank_behind;
-      capacity_same = told.0;
-      horizon_same = told.1;
-      next_same = told.2;
-      room_same = told.3;
-      floor_same = told.4;
-      rows_same = told.5;
-      slots_same = told.6;
-    }
+    let kept = kept_of k was c.told.ensures in
+    let more : suc was.next ≡ c.number_after.result = sym (c.number_after.ensures ∙ add-one was.next) in (
+      subst (λ (n : ℕ). MayEnter k (holding was) n (row_of was.next x Held)) more (given_enters k g.met.L.Units.keeps was.slots.floor (holding was) kept c.args.request c.requires.1.policy c.requires.0 x c.requires.1.is),
+      (best k g.met.L.Units.keeps was.slots.floor (holding was) kept c.args.request c.requires.1.policy c.requires.0 x c.requires.1.is).fits,
+    )
 
 pub returns : goal.returns
 returns g c =
+    let k = g.L.Units.kind in
     let was = c.args.self.now in
     let x = booked c.args.request c.args.found.rectangle.start c.args.found.claim in
-    let push = c.push.ensures in
-    let did = c.change.ensures in
-    let now = entered_now g.L.Units.kind g.met.L.Units.keeps was c.told.ensures c.args.request c.requires.1.0 c.requires.0 x c.requires.1.1 c.push.new.self push.rows push.count push.room g.L.Value.alike g.met.L.Value.told c.change.result c.change.new.self did.answer did.list in
+    let did = c.add.ensures in
+    let entered = did.board ∙ ap (λ (n : ℕ). with_row k (holding was) n (row_of was.next x Held)) (c.number_after.ensures ∙ add-one was.next) in
     record {
       answer = refl;
-      board = now.holding_is;
-      rest = same_behind _ _ _ _ now.rows_behind now.slots_behind;
-      lent = (push.lent, did.lent);
+      board = entered;
+      takes = subst (λ b. Takes k b (Ok (grant_of was.next x))) (sym entered) (granted_taken k was.slots.floor (holding was) (kept_of k was c.told.ensures) x);
+      rest = did.rest;
+      lent = did.lent;
     }
