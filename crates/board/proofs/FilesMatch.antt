@@ -2,7 +2,7 @@
 use Rattle.std.proofs.Common.{◌≡◌, ℕ, suc, ◌≤◌, true, false, eqb, List, [], ◌∷◌, length, Some, None, Option, sym, refl, ap, ◌∙◌, subst, arith}
 use Rattle.std.proofs.lemmas.Bool.{both_ways, eqb-false, le-ltb, ne_eqb, or_from, or_parts}
 use Rattle.std.specs.Option.{option_map}
-use Rattle.std.specs.List.{AllByRecursion as All}
+use Rattle.std.specs.List.{AllByRecursion}
 use Rattle.units.specs.Kinds.{Kind, Lawful}
 use Rattle.bookings.specs.Bookings.{slot_list}
 use Rattle.bookings.specs.Refusals.{first_that_applies}
@@ -86,7 +86,7 @@ module _ {L : Type 0} (k : Kind L) (lawful : Lawful k) (f : Filing L) (faithful 
     offset_fits = omega arith;
   }
 
-  rows_fit : (low : ℕ) (rows : List (Row L)) → AllAllowed k (header_of f book) low rows → All (RowFits f) rows
+  rows_fit : (low : ℕ) (rows : List (Row L)) → AllAllowed k (header_of f book) low rows → AllByRecursion (RowFits f) rows
   rows_fit low [] a = tt
   rows_fit low (r ∷ rows) a = (
     record {

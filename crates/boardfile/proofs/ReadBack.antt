@@ -1,7 +1,7 @@
 -- Reading what was written: a header, a row, and the rows of a file come back. Assumes nothing.
 use Rattle.std.proofs.Common.{◌≡◌, ℕ, ◌*◌, ◌^◌, ◌<◌, List, [], ◌∷◌, ◌++◌, map, length, refl, ap, ◌∙◌, arith}
 use Rattle.std.specs.Simd.{first_chunks}
-use Rattle.std.specs.List.{flat_map, AllByRecursion as All}
+use Rattle.std.specs.List.{flat_map, AllByRecursion}
 use Rattle.bookings.specs.Rows.{row_of, Book}
 use Rattle.bookings.specs.declared.row.Row.{Row}
 use Rattle.bookings.specs.declared.row.State.{State}
@@ -71,7 +71,7 @@ module _ {L : Type 0} (f : Filing L) where
       (ap f.claim (value_eight (f.word r.booking.claim) fits.word_fits) ∙ fits.word_back)
       (ap state_numbered (value_four (state_number r.state) (state_small r.state)) ∙ state_back r.state)
 
-  pub rows_back : (rows : List (Row L)) → All (RowFits f) rows → map (row_in f) (first_chunks 24 (length rows) (flat_map (row_bytes f) rows)) ≡ rows
+  pub rows_back : (rows : List (Row L)) → AllByRecursion (RowFits f) rows → map (row_in f) (first_chunks 24 (length rows) (flat_map (row_bytes f) rows)) ≡ rows
   rows_back [] fits = refl
   rows_back (r ∷ rows) fits = ap (λ x. x ∷ map (row_in f) (first_chunks 24 (length rows) (flat_map (row_bytes f) rows))) (row_back r [] fits.0) ∙ ap (λ xs. r ∷ xs) (rows_back rows fits.1)
 
@@ -87,5 +87,5 @@ module _ {L : Type 0} (f : Filing L) where
   pub file_header : (book : Book L) → HeaderFits (header_of f book) → header_in (file_of f book) ≡ header_of f book
   file_header book fits = header_back (header_of f book) (flat_map (row_bytes f) book.rows) fits
 
-  pub file_rows : (book : Book L) → HeaderFits (header_of f book) → All (RowFits f) book.rows → rows_in f (file_of f book) ≡ book.rows
+  pub file_rows : (book : Book L) → HeaderFits (header_of f book) → AllByRecursion (RowFits f) book.rows → rows_in f (file_of f book) ≡ book.rows
   file_rows book fits all = ap (λ header. map (row_in f) (first_chunks 24 header.count (flat_map (row_bytes f) book.rows))) (file_header book fits) ∙ rows_back book.rows all

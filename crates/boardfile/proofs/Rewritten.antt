@@ -4,7 +4,7 @@ use Rattle.std.proofs.ByRecursion.{All-take, All-drop}
 use Rattle.std.proofs.lemmas.List.{length-map, length-take-le, take-append-drop, take_all, drop-drop, nil_from_length}
 use Rattle.std.proofs.lemmas.Bool.{eqb-true, both_ways}
 use Rattle.std.specs.Simd.{first_chunks}
-use Rattle.std.specs.List.{flat_map, AllByRecursion as All}
+use Rattle.std.specs.List.{flat_map, AllByRecursion}
 use Rattle.bookings.specs.declared.row.Row.{Row}
 use Rattle.bookings.specs.declared.row.State.TheVariants.{Blank, Confirmed, UnderWay, Held}
 use Rattle.boardfile.specs.Bytes.{written, number_at, Bytes}
@@ -43,7 +43,7 @@ state_again n is = go (eqb n 1) (eqb n 2) (eqb n 3) refl refl is
 
 -- each is confirmed or under way
 abbrev pub AllSettled : {L : Type 0} → List (Row L) → Type 0
-AllSettled rows = All (λ r. settled r.state ≡ true) rows
+AllSettled rows = AllByRecursion (λ r. settled r.state ≡ true) rows
 
 -- as many rows as the header counts
 module _ {L : Type 0} (f : Filing L) where
