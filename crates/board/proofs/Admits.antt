@@ -86,9 +86,6 @@ module _ {L : Type 0} (k : Kind L) (c : ℕ) (others : List (Booking L)) (x : Bo
   fits_from_beside h =
       throughout_from clear_at x.start (x.end - x.start) (λ j l u. h j (and_from (leb x.start j) (ltb j x.end) (le-leb x.start j l) (lt-ltb j x.end (omega arith))))
 
-  pub not_beside : fits_in k c others x ≡ false → FitsBeside k c others x → ⊥
-  not_beside t h = both_ways (fits_in k c others x) t (fits_from_beside h)
-
   -- a claim is clear of the joined loads of its minutes exactly when it fits in
   pub clear_is_fits : Laws k c → x.start < x.end → k.clear c x.claim (joined_over k (load_at k c others) x.start (x.end - x.start)) ≡ fits_in k c others x
   clear_is_fits laws some =
