@@ -1,14 +1,11 @@
-pub mod Blanks
 pub mod Changes
 pub mod Edited
-pub mod Ends
-pub mod Gathers
 pub mod Lacking
-pub mod Moves
 pub mod Onward
 pub mod Rooms
+pub mod SiftedAre
 pub mod Spans
+pub mod Spots
 pub mod Splits
-pub mod Tidied
 pub mod Unique
 pub mod Whole

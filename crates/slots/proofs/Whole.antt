@@ -1,21 +1,22 @@
--- The whole of a change, step by step over the memory: it leaves the edited list. Assumes nothing.
-use Rattle.std.proofs.Common.{◌≡◌, ℕ, suc, ◌+◌, ◌-◌, ◌<◌, ◌≤◌, Bool, false, List, [], ◌∷◌, ◌++◌, map, length, take, drop, replicate, Decides, sym, refl, ap, ◌∙◌, ap₂, inl, inr, arith}
-use lib.Seq.{paste}
-use Rattle.std.proofs.lemmas.List.{length-replicate, length-take-le}
-use Rattle.std.proofs.lemmas.List.Edits.{paste_all}
+-- The whole of a change, step by step over the records: it leaves the edited list. Assumes nothing.
+use Rattle.std.proofs.Common.{◌≡◌, ℕ, suc, ◌+◌, ◌<◌, Bool, false, List, [], ◌∷◌, map, take, drop, Decides, Bor, length, ◌++◌, sym, refl, ap, subst, ◌∙◌, ap₂, inl, inr, arith}
 use Rattle.std.proofs.lemmas.Bool.{cases_order, cases_Bool, cond-false}
-use Rattle.slots.specs.Stepped.{slot_of, Canonical, edited}
-use Rattle.slots.specs.Memory.{laid}
-use Rattle.slots.specs.Steps.{place, last_of, split, remade, settled, parted, changed_over, changed_from, put_of, both_in, over, Found}
-use Rattle.slots.specs.SlotLists.{records, Tidy}
+use Rattle.lent.specs.Lists.{items, Refilled}
+use Rattle.lent.specs.Sifting.{sifted}
+use Rattle.lent.specs.declared.lent.Lent.{Lent}
+use Rattle.lent.proofs.Refills.{items_are, refilled_again}
+use Rattle.slots.specs.Settlings.{left_by, after_by}
+use Rattle.slots.specs.SlotLists.{records}
+use Rattle.slots.specs.Stepped.{Canonical, edited}
+use Rattle.slots.specs.Steps.{place, last_of, split, remade, settled, parted, changed_over, changed_from, put_in, put_of, both_in, Found}
 use Rattle.slots.specs.declared.slot.Slot.{Slot}
 use Rattle.slots.specs.declared.reads.Ends.{Ends}
 use Rattle.slots.specs.declared.list.SlotList.{SlotList}
-use Rattle.slots.proofs.Blanks.{laid_over}
-use Rattle.slots.proofs.Edited.{changed_edited}
-use Rattle.slots.proofs.Ends.{start_lacks, end_lacks, before_start, both_parted}
-use Rattle.slots.proofs.Lacking.{parted_length}
-use Rattle.slots.proofs.Moves.{take_over, drop_over}
+use Rattle.slots.specs.declared.settling.Settling.{Settling}
+use Rattle.slots.specs.declared.span.Span.{Span}
+use Rattle.slots.proofs.Edited.{changed_edited, edited_right}
+use Rattle.slots.proofs.SiftedAre.{sifted_settled}
+use Rattle.slots.proofs.Spots.{before_start, both_parted}
 use Rattle.slots.proofs.Spans.{split_after, outside, sooner}
 use Rattle.slots.proofs.Splits.{place_after, place_here}
 use Rattle.slots.proofs.Unique.{canonical_ascending}
@@ -45,49 +46,42 @@ module _ {V : Type 0} (same : V → V → Bool) (told : (a b : V) → Decides (s
       at_start : place from (x ∷ xs) ≡ 0 → changed_from same f from until (place from (x ∷ xs)) (last_of b (take (place from (x ∷ xs)) (x ∷ xs))) (parted from until b (x ∷ xs)) ≡ changed_over same f from until b (x ∷ xs)
       at_start p = ap (λ (i : ℕ). changed_from same f from until i (last_of b (take i (x ∷ xs))) (parted from until b (x ∷ xs))) p
 
-  -- a tidy list, the spots of the span's ends in it, and what lies in memory once their records are put in, once the records are gone over, and once the rest is blank
-  module _ (was : SlotList V) (tidy : Tidy was) (ends : Ends V)
-      (a : Found from was.floor (records was) ends.start) (b : Found until ends.start.fresh.value (drop ends.start.place (records was)) ends.end)
-      (fits : length (put_of ends.start) + length (put_of ends.end) ≤ was.room - was.used)
-      (s1 s2 : List (Slot V)) (u1 left : ℕ)
-      (u1-is : u1 ≡ was.used + (length (put_of ends.start) + length (put_of ends.end))) (s1-is : s1 ≡ over (both_in ends (records was)) was.slots.now)
-      (left_is : left ≡ length (changed_from same f from until ends.start.place ends.start.fresh.value (take u1 s1)))
-      (front : take left s2 ≡ changed_from same f from until ends.start.place ends.start.fresh.value (take u1 s1))
-      (rest : drop u1 s2 ≡ drop u1 s1) (fewer : left ≤ u1) where
-    abbrev xs : List (Slot V)
-    xs = records was
+  -- so it does where the records of the span's ends were put in
+  pub settled_new : (floor : V) (xs : List (Slot V)) → Canonical 0 floor xs → (ends : Ends V) → Found from floor xs ends.start → Found until ends.start.before (drop ends.start.place xs) ends.end
+      → changed_from same f from until ends.start.place ends.start.before (both_in ends xs) ≡ edited same f from until floor xs
+  settled_new floor xs h ends a b =
+      ap (changed_from same f from until ends.start.place ends.start.before) (both_parted from until span floor xs ends a b)
+      ∙ ap₂ (λ (i : ℕ) v. changed_from same f from until i v (parted from until floor xs)) a.place_is (before_start from until span floor xs ends a b)
+      ∙ front_kept 0 floor xs h
+      ∙ changed_edited same told f from until floor xs span (canonical_ascending 0 floor xs h)
 
-    abbrev memory : List (Slot V)
-    memory = was.slots.now
+-- the list before the change, with the records of the span's ends put in one after the other, and once those from the start on are settled
+module _ {V C : Type 0} (same : V → V → Bool) (told : (a b : V) → Decides (same a b) (a ≡ b)) (changed : C → V → V)
+    (was : SlotList V) (span : Span) (how : Bor C) (minute : span.from < span.until) (ends : Ends V)
+    (a : Found span.from was.floor (records was) ends.start) (b : Found span.until ends.start.before (drop ends.start.place (records was)) ends.end) where
+  abbrev settling : Settling V C
+  settling = record { span = span; how = how; before = ends.start.before }
 
-    abbrev new : List (Slot V)
-    new = edited same f from until was.floor xs
+  abbrev new : List (Slot V)
+  new = edited same (changed how.now) span.from span.until was.floor (records was)
 
-    inside : was.used ≤ length memory
-    inside = omega (arith, tidy.laid_out.used_fits, tidy.laid_out.room_fits)
+  module _ (l1 l2 l3 : Lent (Slot V)) (n : ℕ) (count : n ≡ length (put_of ends.start))
+      (r1 : Refilled was.lent (put_in ends.start.place (put_of ends.start) (records was)) l1)
+      (r2 : Refilled l1 (put_in (ends.start.place + n + ends.end.place) (put_of ends.end) (items l1)) l2)
+      (r3 : Refilled l2 (take ends.start.place (items l2) ++ sifted (left_by same changed) (after_by changed) settling (drop ends.start.place (items l2))) l3) where
+    abbrev left_over : List (Slot V) → List (Slot V)
+    left_over ys = take ends.start.place ys ++ sifted (left_by same changed) (after_by changed) settling (drop ends.start.place ys)
 
-    apart : both_in ends xs ≡ parted from until was.floor xs
-    apart = both_parted from until span was.floor xs ends a b
+    twice : items l2 ≡ both_in ends (records was)
+    twice = items_are l1 l2 _ r2 ∙ ap₂ (λ (k : ℕ) ys. put_in (ends.start.place + k + ends.end.place) (put_of ends.end) ys) count (items_are was.lent l1 _ r1)
 
-    count : u1 ≡ length (both_in ends xs)
-    count = omega (arith, u1-is, ap length apart, parted_length from until was.floor xs span, length-take-le was.used memory inside, start_lacks from until span was.floor xs ends a b, end_lacks from until span was.floor xs ends a b)
+    made : left_over (items l2) ≡ new
+    made =
+        ap left_over twice ∙ ap (λ ys. take ends.start.place (both_in ends (records was)) ++ ys) (sifted_settled same changed settling (drop ends.start.place (both_in ends (records was))))
+        ∙ settled_new same told (changed how.now) span.from span.until minute was.floor (records was) was.canonical ends a b
 
-    gone_over : changed_from same f from until ends.start.place ends.start.fresh.value (take u1 s1) ≡ new
-    gone_over =
-        ap (λ ys. changed_from same f from until ends.start.place ends.start.fresh.value ys) (ap (take u1) s1-is ∙ take_over (both_in ends xs) memory u1 count ∙ apart)
-        ∙ ap₂ (λ (i : ℕ) v. changed_from same f from until i v (parted from until was.floor xs)) a.place_is (before_start from until span was.floor xs ends a b)
-        ∙ front_kept 0 was.floor xs tidy.canonical
-        ∙ changed_edited same told f from until was.floor xs span (canonical_ascending 0 was.floor xs tidy.canonical)
+    pub refilled_new : Refilled was.lent new l3
+    refilled_new = subst (λ ys. Refilled was.lent ys l3) made (refilled_again was.lent l2 _ (refilled_again was.lent l1 _ r1 l2 _ r2) l3 _ r3)
 
-    pub left_new : left ≡ length new
-    left_new = left_is ∙ ap length gone_over
-
-    pub memory_new : paste s2 left (replicate (u1 - left) (slot_of 0 was.floor)) (u1 - left) ≡ laid (slot_of 0 was.floor) was.room new memory
-    memory_new =
-        let blank = slot_of 0 was.floor in
-        let sum : left + (u1 - left) ≡ u1 = omega arith in
-        let behind = rest ∙ ap (drop u1) s1-is ∙ drop_over (both_in ends xs) memory u1 (omega (arith, count)) in
-        paste_all s2 left (replicate (u1 - left) blank) (u1 - left) (sym (length-replicate (u1 - left) blank))
-        ∙ ap₂ (λ ys zs. ys ++ (replicate (u1 - left) blank ++ zs)) (front ∙ gone_over) (ap (λ (n : ℕ). drop n s2) sum ∙ behind)
-        ∙ ap (λ (n : ℕ). new ++ (replicate (u1 - n) blank ++ drop u1 memory)) left_new
-        ∙ laid_over blank was.used was.room memory tidy.laid_out u1 new (omega (arith, left_new)) (omega (arith, u1-is)) (omega (arith, u1-is, fits, tidy.laid_out.used_fits))
+    pub canonical_new : Canonical 0 was.floor (items l3)
+    canonical_new = subst (Canonical 0 was.floor) (sym (items_are was.lent l3 new refilled_new)) (edited_right same told (changed how.now) span.from span.until was.floor (records was)).0

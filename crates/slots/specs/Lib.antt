@@ -1,6 +1,6 @@
 pub mod Lists
 pub mod Stepped
-pub mod Memory
 pub mod Steps
+pub mod Settlings
 pub mod SlotLists
 pub mod Theorems

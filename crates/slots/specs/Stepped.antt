@@ -1,5 +1,7 @@
 -- Values over the minutes, written as a list of records: from its minute on, each record's value stands. Assumes nothing.
 use Rattle.std.specs.Prelude.{ℕ, zero, suc, ◌≤◌, max, Bool, true, cond, ◌&&◌, List, [], ◌∷◌, map, ◌≢◌, nat_le, nat_lt}
+use Rattle.std.specs.Coded.{→_prop, Unit-prop, le_prop}
+use mathlib.Core.HLevel.{×₃_prop, ⊥_prop}
 use Rattle.slots.specs.declared.slot.Slot.{Slot}
 
 abbrev pub slot_of : {V : Type 0} → ℕ → V → Slot V
@@ -27,6 +29,11 @@ ascends low (s ∷ xs) = nat_le low s.minute && ascends (suc s.minute) xs
 abbrev pub Canonical : {V : Type 0} → ℕ → V → List (Slot V) → Type 0
 Canonical low before [] = Unit {0}
 Canonical low before (s ∷ xs) = (low ≤ s.minute) × (s.value ≢ before) × Canonical (suc s.minute) s.value xs
+
+-- there is one way at most for a list to be so
+pub canonical_prop : {V : Type 0} (low : ℕ) (before : V) (xs : List (Slot V)) → IsProp (Canonical low before xs)
+canonical_prop low before [] = Unit-prop
+canonical_prop low before (s ∷ xs) = ×₃_prop le_prop (→_prop ⊥_prop) (canonical_prop (suc s.minute) s.value xs)
 
 -- a minute from which on nothing changes
 abbrev pub last_minute : {V : Type 0} → List (Slot V) → ℕ

@@ -1,5 +1,5 @@
 -- The steps by which a list in memory is changed: a record at each end of the span, new values in it, repeats taken out. Assumes nothing.
-use Rattle.std.specs.Prelude.{◌≡◌, ℕ, suc, ◌+◌, ◌-◌, Bool, cond, List, [], ◌∷◌, ◌++◌, map, length, take, drop, ◌==◌, nat_lt}
+use Rattle.std.specs.Prelude.{◌≡◌, ℕ, suc, ◌+◌, Bool, cond, List, [], ◌∷◌, ◌++◌, map, length, take, drop, Option, None, Some, ◌==◌, nat_lt}
 use Rattle.slots.specs.Stepped.{slot_of, within}
 use Rattle.slots.specs.declared.slot.Slot.{Slot}
 use Rattle.slots.specs.declared.reads.Spot.{Spot}
@@ -55,24 +55,21 @@ changed_from same f from until i before xs = take i xs ++ settled same before (m
 abbrev pub put_in : {X : Type 0} → ℕ → List X → List X → List X
 put_in i new xs = take i xs ++ (new ++ drop i xs)
 
+-- the record, if it is one, as a list
+abbrev pub at_most_one : {X : Type 0} → Option X → List X
+at_most_one None = []
+at_most_one (Some x) = x ∷ []
+
 -- the record to put at a spot, or none where one stands there
 abbrev pub put_of : {V : Type 0} → Spot V → List (Slot V)
-put_of spot = cond spot.there [] (spot.fresh ∷ [])
+put_of spot = at_most_one spot.lacking
 
 -- the spot is where a record at m stands or goes
 pub record Found {V : Type 0} (m : ℕ) (before : V) (xs : List (Slot V)) (spot : Spot V) : Type 0 where
   pub place_is : spot.place ≡ place m xs
-  pub fresh_is : spot.fresh ≡ slot_of m (last_of before (take spot.place xs))
+  pub before_is : spot.before ≡ last_of before (take spot.place xs)
   pub wanting_is : wanting m before xs ≡ put_of spot
 
 -- the records with those of both ends put in, where the end's place is counted from the start's on
 abbrev pub both_in : {V : Type 0} → Ends V → List (Slot V) → List (Slot V)
 both_in ends xs = put_in (ends.start.place + length (put_of ends.start) + ends.end.place) (put_of ends.end) (put_in ends.start.place (put_of ends.start) xs)
-
--- `x` at `i`, and what lay from there to `used` one place on
-abbrev pub opened : {X : Type 0} → ℕ → ℕ → X → List X → List X
-opened i used x xs = take i xs ++ (x ∷ (take (used - i) (drop i xs) ++ drop (used + 1) xs))
-
--- ys written over the front of xs
-abbrev pub over : {X : Type 0} → List X → List X → List X
-over ys xs = ys ++ drop (length ys) xs

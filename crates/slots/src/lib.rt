@@ -2,12 +2,12 @@
 #![tactic(auto)]
 
 pub mod change;
-pub mod clear;
 pub mod list;
 mod reads;
+mod settling;
 pub mod slot;
+pub mod span;
 #[cfg(test)]
 mod tests;
 pub mod theorems;
 pub mod value;
-mod writes;

@@ -1,67 +1,78 @@
-ghost use Rattle.std.specs.Prelude.{◌≡◌, ◌+◌, ◌≤◌, min, [], length, drop, if◌then◌else◌};
-ghost use Rattle.slots.specs.Stepped.{at, slot_of, edited};
-ghost use Rattle.slots.specs.Memory.{laid};
-ghost use Rattle.slots.specs.Steps.{Found};
-ghost use Rattle.slots.specs.SlotLists.{records, Tidy, changeable, Rewritten};
+ghost use Rattle.std.specs.Prelude.{◌≡◌, ◌+◌, ◌≤◌, min, [], length, is_ok, if◌then◌else◌};
+ghost use Rattle.lent.specs.Lists.{items, Refilled};
+ghost use Rattle.lent.specs.Memory.{laid};
+ghost use Rattle.slots.specs.Steps.{put_of, put_in};
+ghost use Rattle.slots.specs.Stepped.{at, slot_of, edited, Canonical, canonical_prop};
 
 use crate::change::Change;
-use crate::reads::{Ends, ends_of, value_at};
+use crate::reads::{Ends, Spot, ends_of, value_at};
+use crate::settling::Settling;
 use crate::slot::Slot;
+use crate::span::Span;
 use crate::value::Value;
-use crate::writes::{fill_from, gather, part};
+use lent::lent::Lent;
 
-// Values over the minutes: `floor` before the first of the first `used` records. The first `room` records are the list's own.
+// Values over the minutes: `floor` before the first record, and each record's value from its minute on. No value repeats the one before it.
 #[derive(Drop)]
 pub struct SlotList<'m, V> {
-    pub slots: &'m mut [Slot<V>],
-    pub used: usize,
-    pub room: usize,
-    pub floor: V,
+    lent: Lent<'m, Slot<V>>,
+    floor: V,
+    ghost blank_is: { lent.blank ≡ slot_of 0 floor },
+    ghost canonical: { Canonical 0 floor (items lent) } by { canonical_prop 0 floor (items lent) },
+}
+
+// Why a change is not made: there is no minute in the span, or the records at its ends find no room.
+#[derive(Clone, Copy, Debug, PartialEq, Eq)]
+pub enum Unchanged {
+    NoMinute,
+    NoRoom,
+}
+
+// Puts the record that is lacking at `place`, if it is.
+fn put<V: Copy>(lent: &mut Lent<'_, Slot<V>>, place: usize, spot: Spot<V>)
+    requires { length (items lent.old) + length (put_of spot) ≤ lent.old.room }
+    ensures { Refilled lent.old (put_in place (put_of spot) (items lent.old)) lent.new }
+{
+    if let Some(s) = spot.lacking {
+        let _ = lent.insert(place, s);
+    }
 }
 
 impl<'m, V: Copy> SlotList<'m, V> {
+    ghost use Rattle.slots.specs.SlotLists.{records, Rewritten};
+
     // A list with no records over the first `room` of the lent ones, or all if fewer are lent. It blanks those, and leaves the others.
     pub fn new(slots: &'m mut [Slot<V>], room: usize, floor: V) -> SlotList<'m, V>
-        ensures used { result.used ≡ 0 }
-        ensures room { result.room ≡ min room (length slots.old) }
+        ensures records { records result ≡ [] }
+        ensures room { result.lent.room ≡ min room (length slots.old) }
         ensures floor { result.floor ≡ floor }
-        ensures slots { result.slots.now ≡ laid (slot_of 0 floor) result.room [] slots.old }
-        ensures lent { result.slots.ghost_name ≡ slots.entry.ghost_name }
+        ensures slots { result.lent.memory.now ≡ laid (slot_of 0 floor) result.lent.room [] slots.old }
+        ensures lent { result.lent.memory.ghost_name ≡ slots.entry.ghost_name }
     {
-        let own = room.min(slots.len());
         let blank = Slot {
             minute: 0,
             value: floor,
         };
-        fill_from(slots, 0, own, blank);
         SlotList {
-            slots,
-            used: 0,
-            room: own,
+            lent: Lent::new(slots, room, blank),
             floor,
         }
     }
 
     // The lent memory.
     pub fn close(self) -> &'m mut [Slot<V>]
-        ensures slots { result.now ≡ self.entry.slots.now }
-        ensures lent { result.ghost_name ≡ self.entry.slots.ghost_name }
+        ensures slots { result.now ≡ self.entry.lent.memory.now }
+        ensures lent { result.ghost_name ≡ self.entry.lent.memory.ghost_name }
     {
-        let SlotList {
-            slots,
-            used,
-            room,
-            floor,
-        } = self;
-        slots
+        let SlotList { lent, floor: _ } = self;
+        lent.close()
     }
 
     // The records in use.
     pub fn records(&self) -> &[Slot<V>]
         ensures { result.now ≡ records self.now }
     {
-        let used = self.used.min(self.slots.len());
-        &self.slots[0..used]
+        self.lent.items()
     }
 
     // The value at `minute`.
@@ -71,44 +82,39 @@ impl<'m, V: Copy> SlotList<'m, V> {
         value_at(self.records(), self.floor, minute)
     }
 
-    // Where records at the span's ends stand, or go.
-    fn ends(&self, from: u32, until: u32) -> Ends<V>
-        requires { self.now.used ≤ length self.now.slots.now }
-        ensures start { Found from self.now.floor (records self.now) result.start }
-        ensures end { Found until result.start.fresh.value (drop result.start.place (records self.now)) result.end }
-        ensures inside { result.start.place + result.end.place ≤ self.now.used }
+    // Takes all records out.
+    pub fn clear(&mut self)
+        ensures { Rewritten self.old [] self.new }
     {
-        ends_of(&self.slots[0..self.used], self.floor, from, until)
+        self.lent.clear();
     }
 }
 
 impl<'m, V: Value> SlotList<'m, V> {
-    // Changes the value at each minute from `from` on and before `until`, if there is one and the records at the ends find room, and says whether it did.
-    pub fn change<C: Change<V>>(&mut self, from: u32, until: u32, how: &C) -> bool
-        ensures answer { Tidy self.old → result ≡ changeable from until self.old.room (records self.old) }
-        ensures list { Tidy self.old → Rewritten self.old (if result then edited V.alike (C.changed how.now) from until self.old.floor (records self.old) else records self.old) self.new }
-        ensures room { self.new.room ≡ self.old.room }
-        ensures floor { self.new.floor ≡ self.old.floor }
-        ensures len { length self.new.slots.now ≡ length self.old.slots.now }
-        ensures lent { self.new.slots.ghost_name ≡ self.old.slots.ghost_name }
+    ghost use Rattle.slots.specs.SlotLists.{records, change_answer, Rewritten};
+
+    // Changes the value at each minute of the span, if the records at its ends find room.
+    pub fn change<C: Change<V>>(&mut self, span: Span, how: &C) -> Result<(), Unchanged>
+        ensures answer { result ≡ change_answer span.from span.until self.old.lent.room (records self.old) }
+        ensures list { Rewritten self.old (if is_ok result then edited V.eq (C.changed how.now) span.from span.until self.old.floor (records self.old) else records self.old) self.new }
     {
-        if self.used > self.room || self.room > self.slots.len() || from >= until {
-            return false;
+        if span.until <= span.from {
+            return Err(Unchanged::NoMinute);
         }
-        let ends = self.ends(from, until);
-        if ends.lacks() > self.room - self.used {
-            return false;
+        let Ends { start, end } = ends_of(self.records(), self.floor, span);
+        if self.lent.spare() < start.lacks() + end.lacks() {
+            return Err(Unchanged::NoRoom);
         }
-        let used = self.used;
-        let floor = self.floor;
-        let parted = part(self.slots, used, ends);
-        let left = gather(self.slots, ends.start, parted, from, until, how);
-        let blank = Slot {
-            minute: 0,
-            value: floor,
-        };
-        fill_from(self.slots, left, parted - left, blank);
-        self.used = left;
-        true
+        put(&mut self.lent, start.place, start);
+        put(&mut self.lent, start.place + start.lacks() + end.place, end);
+        self.lent.sift(
+            start.place,
+            &mut Settling {
+                span,
+                how,
+                before: start.before,
+            },
+        );
+        Ok(())
     }
 }

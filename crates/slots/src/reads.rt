@@ -1,48 +1,17 @@
-ghost use Rattle.std.specs.Prelude.{◌≡◌, ◌+◌, ◌≤◌, length, take, drop};
+// What the records say of a minute, and where a span's ends lie among them.
+ghost use Rattle.std.specs.Prelude.{◌≡◌, ◌+◌, ◌≤◌, length, drop};
 ghost use Rattle.slots.specs.Stepped.{at};
 ghost use Rattle.slots.specs.Steps.{place, last_of, Found, put_of};
 
 use crate::slot::Slot;
+use crate::span::Span;
 
-// The value at `minute`, where `floor` stands before the records.
-pub(crate) fn value_at<V: Copy>(slots: &[Slot<V>], floor: V, minute: u32) -> V
-    ensures { result ≡ at floor slots.now minute }
-{
-    let mut value = floor;
-    for s in slots {
-        if s.minute <= minute {
-            value = s.value;
-        }
-    }
-    value
-}
-
-// How many records stand before `minute`, up to the first that does not.
-fn place_of<V: Copy>(slots: &[Slot<V>], minute: u32) -> usize
-    ensures { result ≡ place minute slots.now }
-{
-    for (i, s) in slots.iter().enumerate() {
-        if minute <= s.minute {
-            return i;
-        }
-    }
-    slots.len()
-}
-
-// The value before the record `i`.
-fn before<V: Copy>(slots: &[Slot<V>], floor: V, i: usize) -> V
-    requires { i ≤ length slots.now }
-    ensures { result ≡ last_of floor (take i slots.now) }
-{
-    if i == 0 { floor } else { slots[i - 1].value }
-}
-
-// Where a record at a minute stands, or goes, and the record to put there.
+// Where a record at a minute stands, or goes: its place, the value that stands before it, and the record to put there, if none stands.
 #[derive(Clone, Copy)]
 pub(crate) struct Spot<V> {
     pub(crate) place: usize,
-    pub(crate) there: bool,
-    pub(crate) fresh: Slot<V>,
+    pub(crate) before: V,
+    pub(crate) lacking: Option<Slot<V>>,
 }
 
 // The spots of a span's start and end. The end's place is counted from the start's on.
@@ -57,24 +26,43 @@ impl<V: Copy> Spot<V> {
     pub(crate) fn lacks(self) -> usize
         ensures { result ≡ length (put_of self) }
     {
-        if self.there { 0 } else { 1 }
-    }
-
-    // The value that stands before it.
-    fn value(self) -> V
-        ensures { result ≡ self.fresh.value }
-    {
-        self.fresh.value
+        usize::from(self.lacking.is_some())
     }
 }
 
-impl<V: Copy> Ends<V> {
-    // How many records are to be put at the two.
-    pub(crate) fn lacks(self) -> usize
-        ensures { result ≡ length (put_of self.start) + length (put_of self.end) }
-    {
-        self.start.lacks() + self.end.lacks()
+// How many records stand before `minute`, up to the first that does not.
+fn place_of<V: Copy>(slots: &[Slot<V>], minute: u32) -> usize
+    ensures { result ≡ place minute slots.now }
+{
+    for (i, s) in slots.iter().enumerate() {
+        if minute <= s.minute {
+            return i;
+        }
     }
+    slots.len()
+}
+
+// The value after the records, where `floor` stands before them.
+pub(crate) fn value_after<V: Copy>(slots: &[Slot<V>], floor: V) -> V
+    ensures { result ≡ last_of floor slots.now }
+{
+    match slots.last() {
+        Some(s) => s.value,
+        None => floor,
+    }
+}
+
+// The value at `minute`, where `floor` stands before the records.
+pub(crate) fn value_at<V: Copy>(slots: &[Slot<V>], floor: V, minute: u32) -> V
+    ensures { result ≡ at floor slots.now minute }
+{
+    let mut value = floor;
+    for s in slots {
+        if s.minute <= minute {
+            value = s.value;
+        }
+    }
+    value
 }
 
 // Where a record at `minute` stands, or goes.
@@ -83,22 +71,29 @@ fn spot_of<V: Copy>(slots: &[Slot<V>], floor: V, minute: u32) -> Spot<V>
     ensures inside { result.place ≤ length slots.now }
 {
     let place = place_of(slots, minute);
-    let there = place < slots.len() && slots[place].minute == minute;
-    let value = before(slots, floor, place);
+    let (front, rest) = slots.split_at(place);
+    let before = value_after(front, floor);
+    let lacking = match rest.first() {
+        Some(s) if s.minute == minute => None,
+        _ => Some(Slot {
+            minute,
+            value: before,
+        }),
+    };
     Spot {
         place,
-        there,
-        fresh: Slot { minute, value },
+        before,
+        lacking,
     }
 }
 
 // The same of both ends of a span, where the end is looked for from the start on.
-pub(crate) fn ends_of<V: Copy>(slots: &[Slot<V>], floor: V, from: u32, until: u32) -> Ends<V>
-    ensures start { Found from floor slots.now result.start }
-    ensures end { Found until result.start.fresh.value (drop result.start.place slots.now) result.end }
+pub(crate) fn ends_of<V: Copy>(slots: &[Slot<V>], floor: V, span: Span) -> Ends<V>
+    ensures start { Found span.from floor slots.now result.start }
+    ensures end { Found span.until result.start.before (drop result.start.place slots.now) result.end }
     ensures inside { result.start.place + result.end.place ≤ length slots.now }
 {
-    let start = spot_of(slots, floor, from);
-    let end = spot_of(&slots[start.place..slots.len()], start.value(), until);
+    let start = spot_of(slots, floor, span.from);
+    let end = spot_of(&slots[start.place..], start.before, span.until);
     Ends { start, end }
 }

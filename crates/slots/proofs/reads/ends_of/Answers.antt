@@ -1,4 +1,4 @@
-use Rattle.std.proofs.Common.{length, ap, subst₂, arith}
+use Rattle.std.proofs.Common.{length, ap, subst, arith}
 use Rattle.std.proofs.lemmas.List.{take_rest, length-drop}
 use Rattle.slots.specs.Steps.{Found}
 use Rattle.slots.proofs.reads.ends_of.Goals as goal
@@ -10,6 +10,6 @@ returns g c =
     let rest = take_rest xs at in
     record {
       start = c.spot_of-start.ensures.found;
-      end = subst₂ (λ v ys. Found c.args.until v ys c.spot_of-end.result) c.value.ensures rest c.spot_of-end.ensures.found;
+      end = subst (λ ys. Found c.args.span.until c.spot_of-start.result.before ys c.spot_of-end.result) rest c.spot_of-end.ensures.found;
       inside = omega (arith, c.spot_of-end.ensures.inside, c.spot_of-start.ensures.inside, ap length rest, length-drop at xs);
     }

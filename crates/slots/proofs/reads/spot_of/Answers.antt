@@ -1,36 +1,34 @@
-use Rattle.std.proofs.Common.{◌≡◌, false, [], ◌∷◌, length, take, sym, ap, ◌∙◌, inl, inr, arith}
-use Rattle.std.proofs.lemmas.Bool.{eqb-true, eqb-false, le-ltb, cases_Bool, cond-true, cond-false}
+use Rattle.std.proofs.Common.{◌≡◌, List, [], ◌∷◌, Some, drop, take, length, sym, ap, ◌∙◌, arith}
+use Rattle.std.specs.List.{slice_get}
 use Rattle.slots.specs.Stepped.{slot_of}
-use Rattle.slots.specs.Steps.{wanting, last_of}
-use Rattle.slots.proofs.Splits.{place_le, wanting_there, wanting_new}
+use Rattle.slots.specs.Steps.{wanting, last_of, at_most_one}
+use Rattle.slots.specs.declared.slot.Slot.{Slot}
+use Rattle.slots.proofs.Splits.{place_le}
+use Rattle.slots.proofs.Spots.{first_there, first_another, none_there}
 use Rattle.slots.proofs.reads.spot_of.Goals as goal
-use Rattle.slots.proofs.reads.spot_of.Goals.{then-place-slots, else-place-slots}
+use Rattle.slots.proofs.reads.spot_of.Goals.{in-Some, in_default, in_default-via-in-Some+else-s-minute, in_default-via-in_default}
 
-pub before-value-requires : goal.before-value-requires
-before-value-requires g c = omega (arith, place_le c.args.minute c.args.slots.now)
+pub split_at-requires : goal.split_at-requires
+split_at-requires g c = omega (arith, place_le c.args.minute c.args.slots.now, c.place_of-place.ensures)
 
-pub returns : goal.returns
-returns g c =
+pub returns-clause-found : goal.returns-clause-found
+returns-clause-found g c =
     let xs = c.args.slots.now in
     let m = c.args.minute in
     let b = c.args.floor in
     let i = c.place_of-place.result in
     let p = c.place_of-place.ensures in
-    let there = c.if-place-slots.there in
-    let fresh = slot_of m c.before-value.result in
-    let same : fresh ≡ slot_of m (last_of b (take i xs)) = ap (slot_of m) c.before-value.ensures in
-    let new = λ (e : there ≡ false) (w : wanting m b xs ≡ slot_of m (last_of b (take i xs)) ∷ []). w ∙ ap (λ s. s ∷ []) (sym same) ∙ sym (cond-false there [] (fresh ∷ []) e) in
+    let before = c.value_after-before.ensures ∙ ap (last_of b) c.split_at.ensures.front in
+    let behind = λ (o : _) (e : o ≡ slice_get c.split_at.result.1.now 0). e ∙ ap (λ (zs : List (Slot g.row.V.Denot)). slice_get zs 0) c.split_at.ensures.back in
+    let new = λ (w : wanting m b xs ≡ slot_of m (last_of b (take i xs)) ∷ []). w ∙ ap (λ v. slot_of m v ∷ []) (sym before) in
     record {
-      found = record {
-        place_is = p;
-        fresh_is = same;
-        wanting_is = elim c.if-place-slots.branch [
-          | then-place-slots w ↦ elim (cases_Bool there) [
-            | inl e ↦ wanting_there m b xs i w.index-slots-place.result p w.if-place-slots.true (eqb-true _ _ (sym w.there-is ∙ e)) ∙ sym (cond-true there [] (fresh ∷ []) e)
-            | inr e ↦ new e (wanting_new m b xs i w.index-slots-place.result p (λ _ k. eqb-false _ _ (sym w.there-is ∙ e) k))
-          ]
-          | else-place-slots w ↦ new (w.there-is ∙ le-ltb i (length xs) w.if-place-slots.false) (wanting_new m b xs i (slot_of 0 b) p (λ l _. omega (arith, w.if-place-slots.false, l)))
-        ];
-      };
-      inside = omega (arith, place_le m xs);
+      place_is = p;
+      before_is = before;
+      wanting_is = elim c.match-first.branch [
+        | in-Some w ↦ first_there m b xs i p w.in-Some.s.now (behind _ w.in-Some.ensures.value) w.if-s-minute.true ∙ ap at_most_one (sym w.lacking-is)
+        | in_default w ↦ elim w.in_default.branch [
+          | in_default-via-in-Some+else-s-minute v ↦ new (first_another m b xs i p v.in-Some.s.now (behind _ v.in-Some.ensures.value) v.if-s-minute.false)
+          | in_default-via-in_default v ↦ new (none_there m b xs i p (behind _ v.in_default.ensures.value))
+        ] ∙ ap at_most_one (sym w.lacking-is)
+      ];
     }

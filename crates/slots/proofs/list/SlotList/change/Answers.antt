@@ -1,81 +1,68 @@
-use Rattle.std.proofs.Common.{◌+◌, ◌-◌, ◌<◌, ◌≤◌, ltb, leb, length, sym, refl, ◌∙◌, arith}
-use Rattle.std.proofs.lemmas.List.{length-take-le}
-use Rattle.std.proofs.lemmas.Bool.{and_left, and_right, and_from, le-ltb, lt-ltb, le-leb, lt-leb}
+use Rattle.std.proofs.Common.{◌≡◌, ◌+◌, ◌-◌, ◌<◌, ◌≤◌, ltb, leb, List, ◌++◌, length, take, drop, Ok, Err, cond, sym, refl, ap, ap₂, subst, ◌∙◌, arith}
+use Rattle.std.proofs.lemmas.Bool.{lt-ltb, le-leb, lt-leb, cond-true, cond-false}
+use Rattle.lent.proofs.Refills.{items_length, kept}
 use Rattle.slots.specs.SlotLists.{records}
-use Rattle.slots.specs.Steps.{lacks, put_of}
-use Rattle.slots.proofs.Ends.{start_lacks, end_lacks}
-use Rattle.slots.proofs.Tidied.{kept_tidy}
-use Rattle.slots.proofs.Whole.{left_new, memory_new}
+use Rattle.slots.specs.Steps.{lacks, Found}
+use Rattle.slots.specs.declared.slot.Slot.{Slot}
+use Rattle.slots.proofs.Spots.{start_lacks, end_lacks}
+use Rattle.slots.proofs.Whole.{refilled_new, canonical_new}
 use Rattle.slots.proofs.list.SlotList.change.Goals as goal
-use Rattle.slots.proofs.list.SlotList.change.Goals.{then-self-via-then-self, then-self-via-else-self+then-self-2, then-self-via-else-self+else-self-2+then-from-until}
 
-pub returns-then-self : goal.returns-then-self
-returns-then-self g c =
+pub returns-then-span-clause-list : goal.returns-then-span-clause-list
+returns-then-span-clause-list g c = record { lent_is = kept c.args.self.now.lent; floor_is = refl }
+
+pub returns-then-spare-lacks-clause-answer : goal.returns-then-spare-lacks-clause-answer
+returns-then-spare-lacks-clause-answer g c =
     let was = c.args.self.now in
-    let from = c.args.from in
-    let until = c.args.until in
+    let from = c.args.span.from in
+    let until = c.args.span.until in
     let xs = records was in
+    let ends = c.ends_of.result in
+    let span : from < until = omega (arith, c.if-span.false) in
+    let a = subst (λ (ys : List (Slot g.row.V.Denot)). Found from was.floor ys ends.start) c.records.ensures c.ends_of.ensures.start in
+    let b = subst (λ (ys : List (Slot g.row.V.Denot)). Found until ends.start.before (drop ends.start.place ys) ends.end) c.records.ensures c.ends_of.ensures.end in
+    let wants = length xs + (lacks from xs + lacks until xs) in
+    let more : was.lent.room < wants = omega (arith, c.if-spare-lacks.true, c.spare.ensures, c.lacks.ensures, c.lacks-2.ensures, start_lacks from until span was.floor xs ends a b, end_lacks from until span was.floor xs ends a b) in
+    sym (cond-true (ltb from until) _ _ (lt-ltb from until span) ∙ cond-false (leb wants was.lent.room) _ _ (lt-leb wants was.lent.room more))
+
+pub returns-then-spare-lacks-clause-list : goal.returns-then-spare-lacks-clause-list
+returns-then-spare-lacks-clause-list g c = record { lent_is = kept c.args.self.now.lent; floor_is = refl }
+
+pub invariant_of-self : goal.invariant_of-self
+invariant_of-self g c =
+    let was = c.args.self.now in
+    let ends = c.ends_of.result in
+    let a = subst (λ (ys : List (Slot g.row.V.Denot)). Found c.args.span.from was.floor ys ends.start) c.records.ensures c.ends_of.ensures.start in
+    let b = subst (λ (ys : List (Slot g.row.V.Denot)). Found c.args.span.until ends.start.before (drop ends.start.place ys) ends.end) c.records.ensures c.ends_of.ensures.end in
+    let minute : c.args.span.from < c.args.span.until = omega (arith, c.if-span.false) in
+    let all = refilled_new g.V.PartialEq.eq g.met.V.Value.told g.C.Change.changed was c.args.span c.args.how minute ends a b c.put.new.lent c.put-2.new.lent c.sift.new.self c.lacks-3.result c.lacks-3.ensures c.put.ensures c.put-2.ensures c.sift.ensures in
     record {
-      answer = λ t. elim c.then-self.branch [
-        | then-self-via-then-self w ↦ absurd (omega (arith, t.laid_out.used_fits, w.if-self.true))
-        | then-self-via-else-self+then-self-2 w ↦ absurd (omega (arith, t.laid_out.room_fits, w.if-self-2.true))
-        | then-self-via-else-self+else-self-2+then-from-until w ↦ sym (and_left (ltb from until) (leb (length xs + (lacks from xs + lacks until xs)) was.room) (le-ltb from until w.if-from-until.true))
-      ];
-      list = kept_tidy was;
-      room = refl;
-      floor = refl;
-      len = refl;
-      lent = refl;
+      blank_is = all.blank_is ∙ was.blank_is;
+      canonical = canonical_new g.V.PartialEq.eq g.met.V.Value.told g.C.Change.changed was c.args.span c.args.how minute ends a b c.put.new.lent c.put-2.new.lent c.sift.new.self c.lacks-3.result c.lacks-3.ensures c.put.ensures c.put-2.ensures c.sift.ensures;
     }
 
-pub returns-then-lacks-self : goal.returns-then-lacks-self
-returns-then-lacks-self g c =
+pub returns-clause-answer : goal.returns-clause-answer
+returns-clause-answer g c =
     let was = c.args.self.now in
-    let from = c.args.from in
-    let until = c.args.until in
+    let from = c.args.span.from in
+    let until = c.args.span.until in
     let xs = records was in
+    let ends = c.ends_of.result in
+    let span : from < until = omega (arith, c.if-span.false) in
+    let a = subst (λ (ys : List (Slot g.row.V.Denot)). Found from was.floor ys ends.start) c.records.ensures c.ends_of.ensures.start in
+    let b = subst (λ (ys : List (Slot g.row.V.Denot)). Found until ends.start.before (drop ends.start.place ys) ends.end) c.records.ensures c.ends_of.ensures.end in
     let wants = length xs + (lacks from xs + lacks until xs) in
-    let ends = c.ends-ends.result in
-    let found = c.ends-ends.ensures in
-    let long = length-take-le was.used was.slots.now (omega (arith, c.if-self.false, c.if-self-2.false)) in
-    let more : was.room < wants = omega (arith, long, c.if-lacks-self.true, c.lacks.ensures, start_lacks from until c.if-from-until.false was.floor xs ends found.start found.end, end_lacks from until c.if-from-until.false was.floor xs ends found.start found.end) in
-    record {
-      answer = λ t. sym (and_right (ltb from until) (leb wants was.room) (lt-leb wants was.room more));
-      list = kept_tidy was;
-      room = refl;
-      floor = refl;
-      len = refl;
-      lent = refl;
-    }
+    let room : wants ≤ was.lent.room = omega (arith, items_length was.lent, was.lent.laid_out.used_fits, c.if-spare-lacks.false, c.spare.ensures, c.lacks.ensures, c.lacks-2.ensures, start_lacks from until span was.floor xs ends a b, end_lacks from until span was.floor xs ends a b) in
+    sym (cond-true (ltb from until) _ _ (lt-ltb from until span) ∙ cond-true (leb wants was.lent.room) _ _ (le-leb wants was.lent.room room))
 
-pub returns : goal.returns
-returns g c =
+pub returns-clause-list : goal.returns-clause-list
+returns-clause-list g c =
     let was = c.args.self.now in
-    let from = c.args.from in
-    let until = c.args.until in
-    let xs = records was in
-    let wants = length xs + (lacks from xs + lacks until xs) in
-    let ends = c.ends-ends.result in
-    let found = c.ends-ends.ensures in
-    let span = c.if-from-until.false in
-    let long = length-take-le was.used was.slots.now (omega (arith, c.if-self.false, c.if-self-2.false)) in
-    let fits : length (put_of ends.start) + length (put_of ends.end) ≤ was.room - was.used = omega (arith, c.if-lacks-self.false, c.lacks.ensures) in
-    let room : wants ≤ was.room = omega (arith, long, fits, c.if-self.false, start_lacks from until span was.floor xs ends found.start found.end, end_lacks from until span was.floor xs ends found.start found.end) in
-    let same = g.V.Value.alike in
-    let told = g.met.V.Value.told in
-    let f = g.C.Change.changed c.args.how.now in
-    let parted = c.part-parted.ensures in
-    let over = c.gather-left.ensures in
+    let ends = c.ends_of.result in
+    let a = subst (λ (ys : List (Slot g.row.V.Denot)). Found c.args.span.from was.floor ys ends.start) c.records.ensures c.ends_of.ensures.start in
+    let b = subst (λ (ys : List (Slot g.row.V.Denot)). Found c.args.span.until ends.start.before (drop ends.start.place ys) ends.end) c.records.ensures c.ends_of.ensures.end in
+    let minute : c.args.span.from < c.args.span.until = omega (arith, c.if-span.false) in
     record {
-      answer = λ t. sym (and_from (ltb from until) (leb wants was.room) (lt-ltb from until span) (le-leb wants was.room room));
-      list = λ t. record {
-        used_is = left_new same told f from until span was t ends found.start found.end fits c.part-parted.new.slots c.gather-left.new.slots c.part-parted.result c.gather-left.result parted.used parted.slots over.count over.front over.rest over.fewer;
-        room_is = refl;
-        floor_is = refl;
-        memory_is = c.fill_from.ensures ∙ memory_new same told f from until span was t ends found.start found.end fits c.part-parted.new.slots c.gather-left.new.slots c.part-parted.result c.gather-left.result parted.used parted.slots over.count over.front over.rest over.fewer;
-      };
-      room = refl;
-      floor = refl;
-      len = omega (arith, c.fill_from.auto.xs, c.gather-left.auto.slots, c.part-parted.auto.slots);
-      lent = refl;
+      lent_is = refilled_new g.V.PartialEq.eq g.met.V.Value.told g.C.Change.changed was c.args.span c.args.how minute ends a b c.put.new.lent c.put-2.new.lent c.sift.new.self c.lacks-3.result c.lacks-3.ensures c.put.ensures c.put-2.ensures c.sift.ensures;
+      floor_is = refl;
     }

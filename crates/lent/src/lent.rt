@@ -1,0 +1,174 @@
+ghost use Rattle.std.specs.Prelude.{◌≡◌, ◌-◌, min, length, [], ◌++◌, take, drop, if◌then◌else◌, is_ok, slice_get, slice_set, nat_lt};
+ghost use Rattle.std.specs.List.{insert, remove};
+ghost use Rattle.lent.specs.Memory.{Laid, laid};
+ghost use Rattle.lent.specs.Sifting.{sifted};
+
+use crate::moves::{close_at, fill, open_at, sift_from};
+use crate::sieve::Sieve;
+
+// A list in lent memory: the first `used` elements are its items, blanks stand behind them up to its room, and what lies beyond is not the list's.
+#[derive(Drop)]
+pub struct Lent<'m, T> {
+    memory: &'m mut [T],
+    used: usize,
+    room: usize,
+    blank: T,
+    ghost laid_out: { Laid blank used room memory.now },
+}
+
+// There is no room for one item more.
+#[derive(Clone, Copy, Debug, PartialEq, Eq)]
+pub struct NoRoom;
+
+impl<'m, T: Copy> Lent<'m, T> {
+    ghost use Rattle.lent.specs.Lists.{items, Refilled};
+
+    // A list with no items over the first `room` of the memory, or over all of it if it is shorter. It blanks those, and leaves the others.
+    pub fn new(memory: &'m mut [T], room: usize, blank: T) -> Lent<'m, T>
+        ensures items { items result ≡ [] }
+        ensures room { result.room ≡ min room (length memory.old) }
+        ensures blank { result.blank ≡ blank }
+        ensures memory { result.memory.now ≡ laid blank result.room [] memory.old }
+        ensures lent { result.memory.ghost_name ≡ memory.entry.ghost_name }
+    {
+        let room = room.min(memory.len());
+        fill(&mut memory[..room], blank);
+        Lent {
+            memory,
+            used: 0,
+            room,
+            blank,
+        }
+    }
+
+    // Hands the memory back, with the items in front.
+    pub fn close(self) -> &'m mut [T]
+        ensures memory { result.now ≡ self.entry.memory.now }
+        ensures lent { result.ghost_name ≡ self.entry.memory.ghost_name }
+    {
+        let Lent {
+            memory,
+            used: _,
+            room: _,
+            blank: _,
+        } = self;
+        memory
+    }
+
+    pub fn items(&self) -> &[T]
+        ensures { result.now ≡ items self.now }
+    {
+        &self.memory[..self.used]
+    }
+
+    // How many items more find room.
+    pub fn spare(&self) -> usize
+        ensures { result ≡ self.now.room - length (items self.now) }
+    {
+        self.room - self.used
+    }
+
+    // Puts `x` before the item at `i`, or behind the last one where there is none; where there is no room, nothing changes.
+    pub fn insert(&mut self, i: usize, x: T) -> Result<(), NoRoom>
+        ensures answer { is_ok result ≡ nat_lt (length (items self.old)) self.old.room }
+        ensures list { Refilled self.old (if is_ok result then insert (items self.old) i x else items self.old) self.new }
+    {
+        let used = self.used;
+        if used == self.room {
+            return Err(NoRoom);
+        }
+        open_at(&mut self.memory[..used + 1], i.min(used), x);
+        self.used += 1;
+        Ok(())
+    }
+
+    // Takes the item at `i` out, if there is one.
+    pub fn remove(&mut self, i: usize) -> Option<T>
+        ensures answer { result ≡ slice_get (items self.old) i }
+        ensures list { Refilled self.old (remove (items self.old) i) self.new }
+    {
+        let item = *self.items().get(i)?;
+        close_at(&mut self.memory[..self.used], i, self.blank);
+        self.used -= 1;
+        Some(item)
+    }
+
+    // Puts `x` in place of the item at `i`, if there is one.
+    pub fn replace(&mut self, i: usize, x: T)
+        ensures { Refilled self.old (slice_set (items self.old) i x) self.new }
+    {
+        if i < self.used {
+            self.memory[i] = x;
+        }
+    }
+
+    // Passes the items from the one at `from` on through the sieve, and keeps what it leaves.
+    pub fn sift<S: Sieve<T>>(&mut self, from: usize, sieve: &mut S)
+        ensures { Refilled self.old (take from (items self.old) ++ sifted S.left S.after sieve.old (drop from (items self.old))) self.new }
+    {
+        let used = self.used;
+        let own = &mut self.memory[..used];
+        let left = sift_from(own, from.min(used), sieve);
+        fill(&mut own[left..], self.blank);
+        self.used = left;
+    }
+
+    // Takes all items out.
+    pub fn clear(&mut self)
+        ensures { Refilled self.old [] self.new }
+    {
+        fill(&mut self.memory[..self.used], self.blank);
+        self.used = 0;
+    }
+}
+
+#[cfg(test)]
+mod tests {
+    use super::*;
+
+    // Those of 20 and more stay.
+    #[derive(Drop)]
+    struct Large;
+
+    impl Sieve<u8> for Large {
+        ghost left = { λ _ x. (if nat_lt x 20 then None else Some x) };
+
+        ghost after = { λ s _. s };
+
+        fn pass(&mut self, item: u8) -> Option<u8> {
+            if item < 20 { None } else { Some(item) }
+        }
+    }
+
+    #[test]
+    fn items_come_and_go(rt: HostRuntime) {
+        let mut memory = [7; 5];
+        let mut list = Lent::new(&mut memory, 4, 0);
+        assert_eq!(rt; list.insert(0, 30), Ok(()));
+        assert_eq!(rt; list.insert(9, 10), Ok(()));
+        assert_eq!(rt; list.insert(1, 20), Ok(()));
+        assert!(rt; list.items() == [30, 20, 10].as_slice());
+        assert_eq!(rt; list.spare(), 1);
+        assert_eq!(rt; list.remove(3), None);
+        assert_eq!(rt; list.remove(1), Some(20));
+        list.replace(1, 11);
+        list.replace(2, 12);
+        assert!(rt; list.items() == [30, 11].as_slice());
+        list.sift(0, &mut Large);
+        assert!(rt; &*list.close() == [30, 0, 0, 0, 7].as_slice());
+    }
+
+    #[test]
+    fn no_more_than_there_is_room(rt: HostRuntime) {
+        let mut memory = [7; 3];
+        let mut list = Lent::new(&mut memory, 2, 0);
+        assert_eq!(rt; list.insert(0, 1), Ok(()));
+        assert_eq!(rt; list.insert(0, 2), Ok(()));
+        assert_eq!(rt; list.insert(0, 3), Err(NoRoom));
+        assert!(rt; list.items() == [2, 1].as_slice());
+        list.clear();
+        assert!(rt; list.items().is_empty());
+        assert!(rt; &*list.close() == [0, 0, 7].as_slice());
+        assert!(rt; &*Lent::new(&mut memory, 9, 5).close() == [5, 5, 5].as_slice());
+    }
+}

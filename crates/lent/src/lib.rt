@@ -1,0 +1,6 @@
+//! Lists in memory that a caller lends.
+#![tactic(auto)]
+
+pub mod lent;
+mod moves;
+pub mod sieve;
