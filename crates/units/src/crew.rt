@@ -1,7 +1,7 @@
 // Crew: mechanics who are told apart by their numbers, from 1 to 64.
 ghost use Rattle.std.specs.Prelude.{◌≡◌, ◌<◌, ◌≤◌, MatchOption, count_ones};
 ghost use Rattle.units.specs.Sets.{without, lowest, AreLowest};
-ghost use Rattle.units.specs.Crews.{crew_kind, crew_clear, crew_same, crew_free, crew_pick, idle, mechanics};
+ghost use Rattle.units.specs.Crews.{crew_kind, crew_clear, crew_free, crew_pick, idle, mechanics};
 ghost use Rattle.std.proofs.Common.{rules, arith};
 ghost use Rattle.std.proofs.lemmas.Bool.Decides.{nat_tests};
 ghost use Rattle.units.specs.CrewLaws.{crew_laws};
@@ -13,7 +13,7 @@ use slots::value::Value;
 const MOST: u32 = 64;
 
 // The mechanics who are taken: mechanic k is worth 2^(k-1) in the mask.
-#[derive(Clone, Copy)]
+#[derive(Clone, Copy, Debug, PartialEq, Eq)]
 pub struct Crew {
     pub mask: u64,
 }
@@ -50,13 +50,7 @@ fn first_of(mask: u64, wanted: u32) -> u64
 }
 
 impl Value for Crew {
-    ghost alike = { crew_same };
-
     ghost told = { Prim.search rules };
-
-    fn same(self, other: Crew) -> bool {
-        self.mask == other.mask
-    }
 }
 
 impl Units for Crew {
@@ -145,7 +139,7 @@ mod tests {
         let full = none.put(all, 64);
         assert!(rt; full.free(64) == 0);
         assert!(rt; full.pick(1, 64).is_none());
-        assert!(rt; full.lift(all).same(none));
+        assert_eq!(rt; full.lift(all), none);
         Ok(())
     }
 
@@ -163,7 +157,7 @@ mod tests {
         let none: Crew = <Crew as Units>::nothing();
         let sixth = Crew { mask: 0b10_0000 };
         assert!(rt; !none.is_clear(sixth, 5));
-        assert!(rt; none.put(sixth, 5).same(none));
+        assert_eq!(rt; none.put(sixth, 5), none);
         assert!(rt; none.is_clear(sixth, 6));
         assert!(rt; none.free(65) == 64);
         assert!(rt; none.free(u32::MAX) == 64);

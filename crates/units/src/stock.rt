@@ -1,5 +1,5 @@
 // Stock: pieces that are told apart by their number alone.
-ghost use Rattle.units.specs.Stocks.{stock_kind, stock_same, of_count};
+ghost use Rattle.units.specs.Stocks.{stock_kind, of_count};
 ghost use Rattle.std.proofs.Common.{rules, ap, arith};
 ghost use Rattle.std.proofs.lemmas.Bool.Decides.{nat_tests};
 
@@ -7,19 +7,13 @@ use crate::kind::Units;
 use slots::value::Value;
 
 // How many pieces are taken.
-#[derive(Clone, Copy)]
+#[derive(Clone, Copy, Debug, PartialEq, Eq)]
 pub struct Stock {
     pub count: u64,
 }
 
 impl Value for Stock {
-    ghost alike = { stock_same };
-
     ghost told = { Prim.search rules };
-
-    fn same(self, other: Stock) -> bool {
-        self.count == other.count
-    }
 }
 
 impl Units for Stock {
@@ -124,7 +118,7 @@ mod tests {
         assert!(rt; full.free(4095) == 0);
         assert!(rt; full.pick(1, 4095).is_none());
         assert!(rt; none.pick(4096, 4095).is_none());
-        assert!(rt; full.lift(all).same(none));
+        assert_eq!(rt; full.lift(all), none);
         Ok(())
     }
 
@@ -135,7 +129,7 @@ mod tests {
         assert!(rt; !over.is_clear(<Stock as Units>::nothing(), 4095));
         let huge = Stock { count: u64::MAX };
         assert!(rt; !huge.is_clear(huge, u32::MAX));
-        assert!(rt; huge.put(huge, u32::MAX).same(huge));
+        assert_eq!(rt; huge.put(huge, u32::MAX), huge);
         assert!(rt; over.free(u32::MAX) == u32::MAX - 4096);
     }
 }
