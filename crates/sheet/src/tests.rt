@@ -3,6 +3,7 @@ use crate::answer::Answer;
 use crate::item::Item;
 use crate::order::Order;
 use crate::reader::{SheetReader, items};
+use bookings::refusal::Refusal;
 use slots::slot::Slot;
 use std::process::Abort;
 use std::test::Fail;
@@ -102,7 +103,7 @@ fn answers_as_text(rt: HostRuntime) -> Result<(), Fail> {
             number: 3,
             start: 120,
         },
-        Answer::Refused(9),
+        Answer::Refused(Refusal::NoGap),
         Answer::Done,
         Answer::Silent,
         Answer::Listed,
