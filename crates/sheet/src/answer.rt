@@ -93,7 +93,10 @@ impl Answer {
     pub fn write_to(&self, slots: &[Slot<Crew>], out: &mut String) -> Result<(), AllocError>
         ensures { string_bytes out.new ≡ (if is_ok result then string_bytes out.old ++ text_of slots.now self.now else string_bytes out.old) }
     {
-        let printed = Printed { answer: *self, slots };
+        let printed = Printed {
+            answer: *self,
+            slots,
+        };
         let text = printed.to_string(*out.allocator())?;
         out.push_str(&text)
     }

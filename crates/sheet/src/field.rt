@@ -43,9 +43,8 @@ fn first_number<'a>(fields: &'a [u8]) -> Option<(u32, &'a [u8])>
     let [b' ', rest @ ..] = fields else {
         return None;
     };
-    let end = length_before(rest, b' ');
-    let first = number(&rest[0..end])?;
-    Some((first, &rest[end..]))
+    let (first, behind) = rest.split_at(length_before(rest, b' '));
+    Some((number(first)?, behind))
 }
 
 // The numbers of exactly `N` fields, each with one space in front.
