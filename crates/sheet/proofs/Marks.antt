@@ -1,5 +1,5 @@
 -- How many bytes stand before a mark, in the library's words. Assumes nothing.
-use Rattle.std.proofs.Common.{◌≡◌, ℕ, suc, ◌-◌, ◌≤◌, Bool, true, false, cond, eqb, ltb, List, [], ◌∷◌, length, take, Some, None, Option, refl, ap, ◌∙◌, arith}
+use Rattle.std.proofs.Common.{◌≡◌, ℕ, suc, ◌≤◌, Bool, true, false, cond, eqb, ltb, List, [], ◌∷◌, length, Some, None, Option, refl, ap, ◌∙◌, arith}
 use Rattle.std.proofs.lemmas.Bool.{ltb-false}
 use Rattle.std.specs.List.{position, position_or_len}
 use Rattle.std.specs.Option.{unwrap_or}
@@ -25,6 +25,3 @@ before_found m bs o found = ap (λ p. unwrap_or p (length bs)) found ∙ by_test
     by_test : (v : Bool) → ltb n (length bs) ≡ v → unwrap_or (cond v (Some n) None) (length bs) ≡ length_before m bs
     by_test true e = before_is m bs
     by_test false e = omega (arith, before_is m bs, before_within m bs, ltb-false _ _ e)
-
-pub cut_before : (n : ℕ) (rest bs : List ℕ) → rest ≡ bs → n ≡ length_before 10 bs → take (n - 0) rest ≡ take (length_before 10 bs) bs
-cut_before n rest bs e h = let z : n - 0 ≡ length_before 10 bs = omega arith in cc
