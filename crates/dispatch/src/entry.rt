@@ -76,14 +76,13 @@ fn obey(board: &mut Board<'_, Crew>, order: Order) -> Result<Answer, Refusal>
                 deadline,
                 wanted,
             };
-            return held(board, request, welcome);
+            held(board, request, welcome)
         }
-        Order::Cancel(number) => board.cancel(number)?,
-        Order::Begin(number) => board.begin(number)?,
-        Order::Finish(number) => board.finish(number)?,
-        Order::List => return Ok(Answer::Listed),
+        Order::Cancel(number) => board.cancel(number).map(|()| Answer::Done),
+        Order::Begin(number) => board.begin(number).map(|()| Answer::Done),
+        Order::Finish(number) => board.finish(number).map(|()| Answer::Done),
+        Order::List => Ok(Answer::Listed),
     }
-    Ok(Answer::Done)
 }
 
 // The answer to a line, which a bad line gets as a refusal, and a remark in silence.
