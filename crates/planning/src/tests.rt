@@ -1,4 +1,4 @@
-use crate::find::{find_claim, find_start};
+use crate::find::Search;
 use crate::policy::*;
 use crate::rectangle::Rectangle;
 use crate::request::Request;
@@ -33,8 +33,13 @@ fn start_by<P: Policy>(policy: &P) -> Option<u32> {
         deadline: 60,
         wanted: 5,
     };
-    let rectangle = find_start(&slots, 10, 100, request, policy)?;
-    Some(rectangle.start)
+    let search = Search {
+        slots: &slots,
+        capacity: 10,
+        horizon: 100,
+        request,
+    };
+    search.find_start(policy).map(|rectangle| rectangle.start)
 }
 
 #[test]
@@ -76,12 +81,21 @@ fn the_same_mechanics_throughout(rt: HostRuntime) -> Result<(), Fail> {
         deadline: 10,
         wanted: 1,
     };
-    assert!(rt; find_claim(&slots, 2, 100, request, &EARLIEST_START).is_none());
-    let later = Request {
-        deadline: 20,
-        ..request
+    let search = Search {
+        slots: &slots,
+        capacity: 2,
+        horizon: 100,
+        request,
     };
-    let found = find_claim(&slots, 2, 100, later, &EARLIEST_START).ok_or("none can")?;
+    assert!(rt; search.find_claim(&EARLIEST_START).is_none());
+    let later = Search {
+        request: Request {
+            deadline: 20,
+            ..request
+        },
+        ..search
+    };
+    let found = later.find_claim(&EARLIEST_START).ok_or("none can")?;
     assert_eq!(rt; found.rectangle.start, 5);
     assert_eq!(rt; found.claim.mask, 1);
     Ok(())
@@ -96,10 +110,19 @@ fn the_stretch_around_a_start(rt: HostRuntime) -> Result<(), Fail> {
         deadline: 40,
         wanted: 2,
     };
-    let found = find_claim(&slots, 4, 100, request, &MOST_FREE).ok_or("none can")?;
-    assert_eq!(rt; found.rectangle.start, 15);
-    assert_eq!(rt; found.rectangle.units, 4);
-    assert_eq!(rt; found.rectangle.opening, 15);
-    assert_eq!(rt; found.rectangle.closing, 100);
+    let search = Search {
+        slots: &slots,
+        capacity: 4,
+        horizon: 100,
+        request,
+    };
+    let found = search.find_claim(&MOST_FREE).ok_or("none can")?;
+    let expected = Rectangle {
+        start: 15,
+        units: 4,
+        opening: 15,
+        closing: 100,
+    };
+    assert_eq!(rt; found.rectangle, expected);
     Ok(())
 }
