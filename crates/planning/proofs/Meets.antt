@@ -1,6 +1,6 @@
 -- What a minute meets, from the records around it. Assumes nothing.
-use Rattle.std.proofs.Common.{◌≡◌, ℕ, suc, ◌≤◌, List, sym, ◌∙◌, subst, ap, ap₂, arith}
-use Rattle.units.specs.Kinds.{Kind}
+use Rattle.std.proofs.Common.{◌≡◌, ℕ, suc, ◌-◌, ◌≤◌, true, List, sym, ◌∙◌, subst, ap, ap₂, arith}
+use Rattle.units.specs.Kinds.{Kind, Laws}
 use Rattle.slots.specs.Stepped.{at, Ascending}
 use Rattle.slots.specs.declared.slot.Slot.{Slot}
 use Rattle.planning.specs.Search.{joined_over}
@@ -8,9 +8,9 @@ use Rattle.planning.specs.Rectangles.{opening_of, closing_of}
 use Rattle.planning.specs.Walks.{IsAround}
 use Rattle.planning.specs.declared.walk.Around.{Around}
 use Rattle.planning.proofs.Splits.{after_rises, at_late, at_soon}
-use Rattle.planning.proofs.Covers.{over_same}
-use Rattle.planning.proofs.Opens.{same_open}
-use Rattle.planning.proofs.Closes.{same_close}
+use Rattle.planning.proofs.Covers.{covered, over_same, covers}
+use Rattle.planning.proofs.Opens.{quiet, same_open}
+use Rattle.planning.proofs.Closes.{first_loud, same_close, closes_is}
 
 module _ {L : Type 0} (k : Kind L) (xs : List (Slot L)) (around : Around L) (is : IsAround k.nothing xs around) where
   abbrev s : ℕ
@@ -33,3 +33,10 @@ module _ {L : Type 0} (k : Kind L) (xs : List (Slot L)) (around : Around L) (is 
 
   pub joined_is : (d : ℕ) → joined_over k (at around.here around.after.now) s d ≡ joined_over k load s d
   joined_is d = over_same k (at around.here around.after.now) load s d late
+
+  -- the records after it, gone over one by one
+  pub covered_is : {c : ℕ} (laws : Laws k c) (d : ℕ) → 1 ≤ d → covered k s d around.here around.after.now ≡ joined_over k load s d
+  covered_is laws d some = covers k laws s d around.here around.after.now rises some ∙ joined_is d
+
+  pub first_loud_is : (over : L) (h : ℕ) → s ≤ h → quiet k over around.here ≡ true → first_loud k over h around.after.now ≡ closing_of k load over s (h - s)
+  first_loud_is over h l q = sym (closes_is k over s h around.here around.after.now rises l q) ∙ closing_is over (h - s)

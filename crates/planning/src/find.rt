@@ -24,6 +24,7 @@ pub struct Search<'a, L> {
 }
 
 // A start that was found: its rectangle, and the joined loads that the request meets there.
+// Stays: a type of its own beside Found, and no plainer as one: a name for both fields would hide that one is a claim and the other a load.
 #[derive(Clone, Copy)]
 struct Hit<L> {
     rectangle: Rectangle,

@@ -1,8 +1,8 @@
 use Rattle.std.proofs.Common.{◌+◌, ◌≤◌, drop, sym, ◌∙◌, arith}
 use Rattle.std.proofs.lemmas.List.{at_drop_all}
 use Rattle.planning.proofs.Ascents.{next}
-use Rattle.planning.proofs.Covers.{covered, past, covers}
-use Rattle.planning.proofs.Meets.{rises, joined_is}
+use Rattle.planning.proofs.Covers.{covered, past}
+use Rattle.planning.proofs.Meets.{covered_is}
 use Rattle.planning.proofs.walk.Around.joined.Goals as goal
 
 pub returns-then-duration-saturating_sub : goal.returns-then-duration-saturating_sub
@@ -18,8 +18,7 @@ returns-then-duration-saturating_sub g c xs is =
     sym (past k s d over x (drop (i + 1) around.after.now) (omega arith))
     ∙ sym (next (covered k s d over) around.after.now i x c.loop-slot-test.true c.slot-item.is)
     ∙ c.loop-slot.invariant
-    ∙ covers k (g.met.L.Units.keeps 0 (omega arith)) s d around.here around.after.now (rises k xs around is) some
-    ∙ joined_is k xs around is d
+    ∙ covered_is k xs around is (g.met.L.Units.keeps 0 (omega arith)) d some
 
 pub returns : goal.returns
 returns g c xs is =
@@ -30,5 +29,4 @@ returns g c xs is =
     let some : 1 ≤ d = omega arith in
     sym (at_drop_all (covered k s d c.loop-slot.over) around.after.now c.loop-slot.slot-index c.loop-slot-test.false)
     ∙ c.loop-slot.invariant
-    ∙ covers k (g.met.L.Units.keeps 0 (omega arith)) s d around.here around.after.now (rises k xs around is) some
-    ∙ joined_is k xs around is d
+    ∙ covered_is k xs around is (g.met.L.Units.keeps 0 (omega arith)) d some
