@@ -1,6 +1,6 @@
 -- What stands before, at and after the records of an ascending list. Assumes nothing.
-use Rattle.std.proofs.Common.{◌≡◌, ℕ, zero, suc, ◌+◌, ◌-◌, ◌<◌, ◌≤◌, true, cond, leb, List, [], ◌∷◌, ◌++◌, length, get_or, take, drop, sym, refl, ap, ◌∙◌, subst, arith}
-use Rattle.std.proofs.lemmas.List.{at_drop_more, take_more}
+use Rattle.std.proofs.Common.{◌≡◌, ℕ, zero, suc, ◌+◌, ◌<◌, ◌≤◌, true, cond, leb, List, [], ◌∷◌, ◌++◌, length, get_or, drop, sym, refl, ap, ◌∙◌, subst, arith}
+use Rattle.std.proofs.lemmas.List.{at_drop_more}
 use Rattle.std.proofs.lemmas.Bool.{le-leb, lt-leb, leb-true, and_parts, and_from}
 use Rattle.slots.specs.Stepped.{at, Ascending, Canonical, ascends}
 use Rattle.slots.specs.declared.slot.Slot.{Slot}
@@ -8,12 +8,6 @@ use Rattle.slots.specs.declared.slot.Slot.{Slot}
 -- what is left of a list that is walked begins with what was read
 pub next : {X Y : Type 0} (F : List X → Y) (xs : List X) (i : ℕ) (x : X) → i < length xs → x ≡ get_or xs i x → F (drop i xs) ≡ F (x ∷ drop (i + 1) xs)
 next F xs i x within read = at_drop_more F xs i x within ∙ ap (λ y. F (y ∷ drop (i + 1) xs)) (sym read)
-
--- and walked from its end, what is left ends with it
-pub last : {X Y : Type 0} (F : List X → Y) (xs : List X) (i : ℕ) (x : X) → 0 < i → i ≤ length xs → x ≡ get_or xs (i - 1) x → F (take i xs) ≡ F (take (i - 1) xs ++ (x ∷ []))
-last F xs i x some within read =
-    let size : i ≡ (i - 1) + 1 = omega arith in
-    ap (λ n. F (take n xs)) size ∙ ap F (take_more xs (i - 1) x (omega arith)) ∙ ap (λ y. F (take (i - 1) xs ++ (y ∷ []))) (sym read)
 
 module _ {L : Type 0} where
   pub early : (low : ℕ) (b : L) (xs : List (Slot L)) (m : ℕ) → Ascending low xs → m < low → at b xs m ≡ b

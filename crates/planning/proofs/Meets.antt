@@ -1,56 +1,42 @@
--- What a start meets, from the records split at it. Assumes nothing.
-use Rattle.std.proofs.Common.{◌≡◌, ℕ, suc, ◌-◌, ◌<◌, ◌≤◌, true, List, take, drop, Some, None, sym, ap, ◌∙◌, subst, ap₂, arith}
-use Rattle.std.proofs.lemmas.Bool.{le-leb, lt-leb, and_from, and_right, cond-true, cond-false}
-use Rattle.units.specs.Kinds.{Kind}
+-- What a minute meets, from the records around it. Assumes nothing.
+use Rattle.std.proofs.Common.{◌≡◌, ℕ, suc, ◌-◌, ◌≤◌, true, List, sym, ◌∙◌, subst, ap, ap₂, arith}
+use Rattle.units.specs.Kinds.{Kind, Laws}
 use Rattle.slots.specs.Stepped.{at, Ascending}
 use Rattle.slots.specs.declared.slot.Slot.{Slot}
-use Rattle.planning.specs.Requests.{in_window, enough}
-use Rattle.planning.specs.Search.{joined_over, free_from}
-use Rattle.planning.specs.Rectangles.{opening_of, closing_of, rectangle}
-use Rattle.planning.specs.Tries.{found_at, IsHit}
-use Rattle.planning.specs.Walks.{upto, last_value}
-use Rattle.planning.specs.declared.request.Request.{Request}
-use Rattle.planning.proofs.Splits.{after_rises, here_is, at_late, at_soon}
-use Rattle.planning.proofs.Covers.{over_same}
-use Rattle.planning.proofs.Opens.{same_open}
-use Rattle.planning.proofs.Closes.{same_close}
+use Rattle.planning.specs.Search.{joined_over}
+use Rattle.planning.specs.Rectangles.{opening_of, closing_of}
+use Rattle.planning.specs.Walks.{IsAround}
+use Rattle.planning.specs.declared.walk.Around.{Around}
+use Rattle.planning.proofs.Splits.{after_rises, at_late, at_soon}
+use Rattle.planning.proofs.Covers.{covered, over_same, covers}
+use Rattle.planning.proofs.Opens.{quiet, same_open}
+use Rattle.planning.proofs.Closes.{first_loud, same_close, closes_is}
 
-module _ {L : Type 0} (k : Kind L) (s : ℕ) (xs : List (Slot L)) (asc : Ascending 0 xs) (mid : ℕ) (before after : List (Slot L)) (here : L) (at_mid : mid ≡ upto s xs) (front : before ≡ take mid xs) (back : after ≡ drop mid xs) (stands : here ≡ last_value k.nothing before) where
+module _ {L : Type 0} (k : Kind L) (xs : List (Slot L)) (around : Around L) (is : IsAround k.nothing xs around) where
+  abbrev s : ℕ
+  s = around.minute
+
   abbrev load : ℕ → L
   load = at k.nothing xs
 
-  before_is : before ≡ take (upto s xs) xs
-  before_is = front ∙ ap (λ n. take n xs) at_mid
+  pub rises : Ascending (suc s) around.after.now
+  rises = subst (Ascending (suc s)) (sym is.after_is) (after_rises s 0 xs is.ascending)
 
-  after_is : after ≡ drop (upto s xs) xs
-  after_is = back ∙ ap (λ n. drop n xs) at_mid
+  late : (n : ℕ) → s ≤ n → at around.here around.after.now n ≡ load n
+  late n l = ap₂ (λ v q. at v q n) is.here_is is.after_is ∙ sym (at_late s 0 k.nothing xs is.ascending n l)
 
-  pub rises : Ascending (suc s) after
-  rises = subst (Ascending (suc s)) (sym after_is) (after_rises s 0 xs asc)
+  pub opening_is : (over : L) → opening_of k (at k.nothing around.before.now) over s ≡ opening_of k load over s
+  opening_is over = same_open k over (at k.nothing around.before.now) load s (λ n l. ap (λ q. at k.nothing q n) is.before_is ∙ sym (at_soon s 0 k.nothing xs is.ascending n (omega arith)))
 
-  late : (n : ℕ) → s ≤ n → at here after n ≡ load n
-  late n l = ap₂ (λ v q. at v q n) (stands ∙ ap (last_value k.nothing) before_is ∙ here_is s 0 k.nothing xs asc) after_is ∙ sym (at_late s 0 k.nothing xs asc n l)
+  pub closing_is : (over : L) (n : ℕ) → closing_of k (at around.here around.after.now) over s n ≡ closing_of k load over s n
+  closing_is over n = same_close k over (at around.here around.after.now) load s n late
 
-  pub opening_is : (over : L) → opening_of k (at k.nothing before) over s ≡ opening_of k load over s
-  opening_is over = same_open k over (at k.nothing before) load s (λ n l. ap (λ q. at k.nothing q n) before_is ∙ sym (at_soon s 0 k.nothing xs asc n (omega arith)))
+  pub joined_is : (d : ℕ) → joined_over k (at around.here around.after.now) s d ≡ joined_over k load s d
+  joined_is d = over_same k (at around.here around.after.now) load s d late
 
-  pub closing_is : (over : L) (h : ℕ) → closing_of k (at here after) over s (h - s) ≡ closing_of k load over s (h - s)
-  closing_is over h = same_close k over (at here after) load s (h - s) late
+  -- the records after it, gone over one by one
+  pub covered_is : {c : ℕ} (laws : Laws k c) (d : ℕ) → 1 ≤ d → covered k s d around.here around.after.now ≡ joined_over k load s d
+  covered_is laws d some = covers k laws s d around.here around.after.now rises some ∙ joined_is d
 
-  pub joined_is : (over : L) (d : ℕ) → over ≡ joined_over k (at here after) s d → over ≡ joined_over k load s d
-  joined_is over d e = e ∙ over_same k (at here after) load s d late
-
-  module _ (c h : ℕ) (request : Request) (over : L) (units : ℕ) (inside : in_window request s ≡ true) (met : over ≡ joined_over k (at here after) s request.duration) (left : units ≡ k.free c over) where
-    free_is : units ≡ free_from k c load request s
-    free_is = left ∙ ap (k.free c) (joined_is over request.duration met)
-
-    pub none_found : units < request.wanted → None ≡ found_at k c h load request s
-    none_found short = sym (cond-false _ _ _ (and_right (in_window request s) (enough request.wanted (free_from k c load request s)) (lt-leb request.wanted (free_from k c load request s) (omega (arith, free_is)))))
-
-    pub some_found : (o z : ℕ) → o ≡ opening_of k load over s → z ≡ closing_of k load over s (h - s) → request.wanted ≤ units → (Some (record { start = s; units = units; opening = o; closing = z }) ≡ found_at k c h load request s) × IsHit k c h load request (Some (record { rectangle = record { start = s; units = units; opening = o; closing = z }; over = over }))
-    some_found o z opened closed plenty =
-        let all = joined_is over request.duration met in
-        let own : record { start = s; units = units; opening = o; closing = z } ≡ rectangle k c h load request s = cc in (
-          ap Some own ∙ sym (cond-true _ _ _ (and_from (in_window request s) (enough request.wanted (free_from k c load request s)) inside (le-leb request.wanted (free_from k c load request s) (omega (arith, free_is))))),
-          (own, all),
-        )
+  pub first_loud_is : (over : L) (h : ℕ) → s ≤ h → quiet k over around.here ≡ true → first_loud k over h around.after.now ≡ closing_of k load over s (h - s)
+  first_loud_is over h l q = sym (closes_is k over s h around.here around.after.now rises l q) ∙ closing_is over (h - s)

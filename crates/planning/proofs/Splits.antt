@@ -1,10 +1,11 @@
 -- An ascending list split at a minute: the records up to it, the load that stands there, and the records after. Assumes nothing.
-use Rattle.std.proofs.Common.{◌≡◌, ℕ, zero, suc, ◌<◌, ◌≤◌, cond, leb, List, [], ◌∷◌, length, get_or, take, drop, sym, refl, ap, ◌∙◌, subst, inl, inr, arith}
+use Rattle.std.proofs.Common.{◌≡◌, ℕ, zero, suc, ◌+◌, ◌<◌, ◌≤◌, cond, leb, List, [], ◌∷◌, length, get_or, take, drop, sym, refl, ap, ◌∙◌, subst, inl, inr, arith}
 use Rattle.std.proofs.lemmas.Bool.{le-leb, lt-leb, cases_lt, cond-true, cond-false}
+use Rattle.std.proofs.lemmas.List.{drop_all}
 use Rattle.slots.specs.Stepped.{at, Ascending}
 use Rattle.slots.specs.declared.slot.Slot.{Slot}
 use Rattle.planning.specs.Walks.{upto, last_value}
-use Rattle.planning.proofs.Ascents.{at_before, at_after, onward}
+use Rattle.planning.proofs.Ascents.{at_before, at_after}
 
 module _ {L : Type 0} (s : ℕ) where
   counted : (x : Slot L) (xs : List (Slot L)) → x.minute ≤ s → upto s (x ∷ xs) ≡ suc (upto s xs)
@@ -17,15 +18,44 @@ module _ {L : Type 0} (s : ℕ) where
   none_upto low [] h l = refl
   none_upto low (x ∷ xs) h l = not_counted x xs (omega arith)
 
+  -- what is left from a record past the minute on
+  pub rest_rises : (low n : ℕ) (xs : List (Slot L)) → Ascending low xs → ((d : Slot L) → n < length xs → s < (get_or xs n d).minute) → Ascending (suc s) (drop n xs)
+  rest_rises low zero [] h later = tt
+  rest_rises low (suc n) [] h later = tt
+  rest_rises low zero (x ∷ xs) h later = (later x (omega arith), h.1)
+  rest_rises low (suc n) (x ∷ xs) h later = rest_rises (suc x.minute) n xs h.1 (λ d l. later d (omega arith))
+
+  no_lower : (low i : ℕ) (xs : List (Slot L)) → Ascending low xs → i < length xs → (d : Slot L) → low ≤ (get_or xs i d).minute
+  no_lower low i [] h l d = absurd (omega arith)
+  no_lower low zero (x ∷ xs) h l d = h.0
+  no_lower low (suc i) (x ∷ xs) h l d = omega (arith, no_lower (suc x.minute) i xs h.1 (omega arith) d)
+
   -- a record up to the minute, and none behind it
-  pub upto_is : (low i : ℕ) (x : Slot L) (xs : List (Slot L)) → Ascending low xs → i < length xs → x ≡ get_or xs i x → x.minute ≤ s → Ascending (suc s) (drop (suc i) xs) → upto s xs ≡ suc i
-  upto_is low i x [] h l e u rest = absurd (omega arith)
-  upto_is low zero x (y ∷ xs) h l e u rest =
-      let own : y.minute ≤ s = subst (λ (v : Slot L). v.minute ≤ s) e u in
-      counted y xs own ∙ ap suc (none_upto (suc s) xs rest (omega arith))
-  upto_is low (suc i) x (y ∷ xs) h l e u rest =
-      let later = (onward (suc y.minute) i x xs h.1 (omega arith) e).0 in
-      counted y xs (omega arith) ∙ ap suc (upto_is (suc y.minute) i x xs h.1 (omega arith) e u rest)
+  pub upto_is : (low i : ℕ) (xs : List (Slot L)) → Ascending low xs → i < length xs → ((d : Slot L) → (get_or xs i d).minute ≤ s) → Ascending (suc s) (drop (suc i) xs) → upto s xs ≡ suc i
+  upto_is low i [] h l u rest = absurd (omega arith)
+  upto_is low zero (y ∷ xs) h l u rest = counted y xs (u y) ∙ ap suc (none_upto (suc s) xs rest (omega arith))
+  upto_is low (suc i) (y ∷ xs) h l u rest =
+      counted y xs (omega (arith, no_lower (suc y.minute) i xs h.1 (omega arith) y, u y)) ∙ ap suc (upto_is (suc y.minute) i xs h.1 (omega arith) u rest)
+
+  -- so many records from the front on, up to the minute, and all others past it
+  pub upto_all : (n : ℕ) (xs : List (Slot L)) → Ascending 0 xs → n ≤ length xs → ((i : ℕ) (d : Slot L) → n ≡ i + 1 → (get_or xs i d).minute ≤ s) → ((j : ℕ) (d : Slot L) → n ≤ j → j < length xs → s < (get_or xs j d).minute) → upto s xs ≡ n
+  upto_all zero xs h l upto later = none_upto (suc s) xs (rest_rises 0 0 xs h (λ d u. later 0 d (omega arith) u)) (omega arith)
+  upto_all (suc i) xs h l upto later = upto_is 0 i xs h l (λ d. upto i d (omega arith)) (rest_rises 0 (suc i) xs h (λ d u. later (suc i) d (omega arith) u))
+
+  -- none of the records behind the first n stands up to the minute
+  pub taken : (low n : ℕ) (xs : List (Slot L)) → Ascending low xs → Ascending low (take n xs)
+  taken low zero xs h = tt
+  taken low (suc n) [] h = tt
+  taken low (suc n) (x ∷ xs) h = (h.0, taken (suc x.minute) n xs h.1)
+
+  pub upto_taken : (n : ℕ) (xs : List (Slot L)) → Ascending (suc s) (drop n xs) → upto s (take n xs) ≡ upto s xs
+  upto_taken zero xs h = sym (none_upto (suc s) xs h (omega arith))
+  upto_taken (suc n) [] h = refl
+  upto_taken (suc n) (x ∷ xs) h = ap (λ m. cond (leb x.minute s) (suc m) 0) (upto_taken n xs h)
+
+  -- from the last record on
+  pub none_left : (xs : List (Slot L)) → Ascending (suc s) (drop (length xs) xs)
+  none_left xs = subst (Ascending (suc s)) (sym (drop_all (length xs) xs (omega arith))) tt
 
   pub after_rises : (low : ℕ) (xs : List (Slot L)) → Ascending low xs → Ascending (suc s) (drop (upto s xs) xs)
   after_rises low [] h = tt

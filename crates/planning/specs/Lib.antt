@@ -4,6 +4,7 @@ pub mod Rectangles
 pub mod Policies
 pub mod Rules
 pub mod Walks
+pub mod Searches
 pub mod Tries
 pub mod Right
 pub mod Theorems

@@ -1,20 +1,30 @@
 ghost use Rattle.std.specs.Prelude.{◌≡◌, suc, ◌-◌, ◌≤◌, true, map, length, drop, Some};
-ghost use Rattle.planning.specs.Policies.{before, granted, found};
+ghost use Rattle.planning.specs.Policies.{before};
 ghost use Rattle.planning.specs.Requests.{in_window};
-ghost use Rattle.planning.specs.Right.{Right};
+ghost use Rattle.planning.specs.Searches.{granted_in, found_in, RightIn};
 ghost use Rattle.planning.specs.Tries.{found_at, rectangle_of, IsHit, GoesOn, better_of, trying};
 ghost use Rattle.planning.specs.declared.rectangle.Rectangle.{Rectangle};
-ghost use Rattle.slots.specs.Stepped.{at, minutes, ascends, Ascending};
+ghost use Rattle.slots.specs.Stepped.{minutes, ascends, Ascending};
 
 use crate::found::Found;
 use crate::policy::Policy;
 use crate::rectangle::Rectangle;
 use crate::request::Request;
-use crate::walk::{closing, count_upto, joined_on, joined_over, last_load, opening};
+use crate::walk::{Around, joined_over};
 use slots::slot::Slot;
 use units::kind::Units;
 
+// A request, and where it is looked for: in the loads that the records say, with so many units, up to the horizon.
+#[derive(Clone, Copy)]
+pub struct Search<'a, L> {
+    pub slots: &'a [Slot<L>],
+    pub capacity: u32,
+    pub horizon: u32,
+    pub request: Request,
+}
+
 // A start that was found: its rectangle, and the joined loads that the request meets there.
+// Stays: a type of its own beside Found, and no plainer as one: a name for both fields would hide that one is a claim and the other a load.
 #[derive(Clone, Copy)]
 struct Hit<L> {
     rectangle: Rectangle,
@@ -30,53 +40,14 @@ fn in_window(request: Request, start: u32) -> bool
         && request.duration <= request.deadline - start
 }
 
-// Is the stretch around `start`, where the request meets `over`, sure to be that of the hit?
-fn goes_on<L: Units>(hit: Hit<L>, over: L, start: u32, horizon: u32) -> bool
-    ensures { result ≡ true → GoesOn hit over start horizon }
-{
-    let r = hit.rectangle;
-    r.opening <= start && start < r.closing && r.closing <= horizon && hit.over.same(over)
-}
-
-// The hit of `start`, if the request can start there. No record from `hint` on stands at or before it; the last hit may spare a walk.
-fn found_at<L: Units>(
-    slots: &[Slot<L>],
-    hint: usize,
-    capacity: u32,
-    horizon: u32,
-    request: Request,
-    start: u32,
-    last: Option<Hit<L>>,
-) -> Option<Hit<L>>
-    requires { hint ≤ length slots.now }
-    ensures { Ascending 0 slots.now → Ascending (suc start) (drop hint slots.now) → IsHit L.kind capacity horizon (at L.kind.nothing slots.now) request last → (rectangle_of result ≡ found_at L.kind capacity horizon (at L.kind.nothing slots.now) request start) × IsHit L.kind capacity horizon (at L.kind.nothing slots.now) request result }
-{
-    if !in_window(request, start) {
-        return None;
+impl<L: Units> Hit<L> {
+    // Is the stretch around `start`, where the request meets `over`, sure to be that of the hit?
+    fn goes_on(&self, over: L, start: u32, horizon: u32) -> bool
+        ensures { result ≡ true → GoesOn self.now over start horizon }
+    {
+        let r = self.rectangle;
+        r.opening <= start && start < r.closing && r.closing <= horizon && self.over.same(over)
     }
-    let (before, after) = slots.split_at(count_upto(slots, hint, start));
-    let here = last_load(before);
-    let over = joined_on(here, after, start, request.duration);
-    let units = over.free(capacity);
-    if units < request.wanted {
-        return None;
-    }
-    let (opening, closing) = match last {
-        Some(hit) if goes_on(hit, over, start, horizon) => {
-            (hit.rectangle.opening, hit.rectangle.closing)
-        }
-        _ => (
-            opening(before, over, start),
-            closing(here, after, over, start, horizon),
-        ),
-    };
-    let rectangle = Rectangle {
-        start,
-        units,
-        opening,
-        closing,
-    };
-    Some(Hit { rectangle, over })
 }
 
 // Is `a` preferred, or no less preferred and earlier?
@@ -111,78 +82,84 @@ fn better_of<L: Units, P: Policy>(
 fn settled<P: Policy>(policy: &P, best: Option<Rectangle>, start: u32) -> bool
     ensures { result ≡ true → (q : Rectangle) → q.start ≡ start → better_of (P.preference policy.now) best (Some q) ≡ best }
 {
-    match best {
-        Some(r) => r.start <= start && policy.earlier_first(),
-        None => false,
-    }
+    best.is_some_and(|r| r.start <= start && policy.earlier_first())
 }
 
-// The best so far, once the starts that are `lead` minutes ahead of a record are tried.
-fn best_ahead<L: Units, P: Policy>(
-    slots: &[Slot<L>],
-    capacity: u32,
-    horizon: u32,
-    request: Request,
-    policy: &P,
-    lead: u32,
-    so_far: Option<Rectangle>,
-) -> Option<Rectangle>
-    ensures { Ascending 0 slots.now → result ≡ trying L.kind capacity (P.preference policy.now) horizon (at L.kind.nothing slots.now) request so_far (map (λ m. m - lead) (minutes slots.now)) }
-{
-    let mut best = so_far;
-    let mut last = None;
-    for (i, slot) in slots.iter().enumerate() {
-        let start = slot.minute.saturating_sub(lead);
-        if !settled(policy, best, start) {
-            let found = found_at(slots, i + 1, capacity, horizon, request, start, last);
-            best = better_of(policy, best, found);
-            last = found.or(last);
+impl<'a, L: Units> Search<'a, L> {
+    // The hit of `start`, if the request can start there. No record from `hint` on stands at or before it; the last hit may spare a walk.
+    fn found_at(&self, hint: usize, start: u32, last: Option<Hit<L>>) -> Option<Hit<L>>
+        requires { hint ≤ length self.now.slots.now }
+        ensures { Ascending 0 self.now.slots.now → Ascending (suc start) (drop hint self.now.slots.now) → IsHit L.kind self.now last → (rectangle_of result ≡ found_at L.kind self.now start) × IsHit L.kind self.now result }
+    {
+        if !in_window(self.request, start) {
+            return None;
         }
+        let around = Around::new(self.slots, hint, start);
+        let over = around.joined(self.request.duration);
+        let units = over.free(self.capacity);
+        if units < self.request.wanted {
+            return None;
+        }
+        let (opening, closing) = match last {
+            Some(hit) if hit.goes_on(over, start, self.horizon) => {
+                (hit.rectangle.opening, hit.rectangle.closing)
+            }
+            _ => (around.opening(over), around.closing(over, self.horizon)),
+        };
+        let rectangle = Rectangle {
+            start,
+            units,
+            opening,
+            closing,
+        };
+        Some(Hit { rectangle, over })
     }
-    best
-}
 
-// The rectangle of the start that is granted to the request, if any.
-pub fn find_start<L: Units, P: Policy>(
-    slots: &[Slot<L>],
-    capacity: u32,
-    horizon: u32,
-    request: Request,
-    policy: &P,
-) -> Option<Rectangle>
-    ensures which { ascends 0 slots.now ≡ true → result ≡ granted L.kind capacity (P.preference policy.now) horizon (at L.kind.nothing slots.now) request slots.now }
-    ensures right { ascends 0 slots.now ≡ true → capacity ≤ L.kind.most → 1 ≤ request.wanted → 1 ≤ request.duration → Right L.kind capacity (P.preference policy.now) horizon (at L.kind.nothing slots.now) request slots.now result }
-{
-    let all = slots.len();
-    let latest = request.deadline.saturating_sub(request.duration);
-    let soonest = found_at(slots, all, capacity, horizon, request, request.ready, None);
-    let first = better_of(policy, None, soonest);
-    let last = found_at(slots, all, capacity, horizon, request, latest, soonest);
-    let ends = better_of(policy, first, last);
-    let begins = best_ahead(slots, capacity, horizon, request, policy, 0, ends);
-    best_ahead(
-        slots,
-        capacity,
-        horizon,
-        request,
-        policy,
-        request.duration,
-        begins,
-    )
-}
+    // The best so far, once the starts that are `lead` minutes ahead of a record are tried.
+    fn best_ahead<P: Policy>(
+        &self,
+        policy: &P,
+        lead: u32,
+        so_far: Option<Rectangle>,
+    ) -> Option<Rectangle>
+        ensures { Ascending 0 self.now.slots.now → result ≡ trying L.kind (P.preference policy.now) self.now so_far (map (λ m. m - lead) (minutes self.now.slots.now)) }
+    {
+        let mut best = so_far;
+        let mut last = None;
+        for (i, slot) in self.slots.iter().enumerate() {
+            let start = slot.minute.saturating_sub(lead);
+            if !settled(policy, best, start) {
+                let found = self.found_at(i + 1, start, last);
+                best = better_of(policy, best, found);
+                last = found.or(last);
+            }
+        }
+        best
+    }
 
-// The start that is granted to the request and the claim that it is given there, if any.
-pub fn find_claim<L: Units, P: Policy>(
-    slots: &[Slot<L>],
-    capacity: u32,
-    horizon: u32,
-    request: Request,
-    policy: &P,
-) -> Option<Found<L>>
-    ensures { ascends 0 slots.now ≡ true → result ≡ found L.kind capacity (P.preference policy.now) horizon (at L.kind.nothing slots.now) request slots.now }
-{
-    let rectangle = find_start(slots, capacity, horizon, request, policy)?;
-    let over = joined_over(slots, rectangle.start, request.duration);
-    let claim = over.pick(request.wanted, capacity)?;
-    Some(Found { rectangle, claim })
+    // The rectangle of the start that is granted to the request, if any.
+    pub fn find_start<P: Policy>(&self, policy: &P) -> Option<Rectangle>
+        ensures which { ascends 0 self.now.slots.now ≡ true → result ≡ granted_in L.kind (P.preference policy.now) self.now }
+        ensures right { ascends 0 self.now.slots.now ≡ true → self.now.capacity ≤ L.kind.most → 1 ≤ self.now.request.wanted → 1 ≤ self.now.request.duration → RightIn L.kind (P.preference policy.now) self.now result }
+    {
+        let all = self.slots.len();
+        let request = self.request;
+        let latest = request.deadline.saturating_sub(request.duration);
+        let soonest = self.found_at(all, request.ready, None);
+        let first = better_of(policy, None, soonest);
+        let last = self.found_at(all, latest, soonest);
+        let ends = better_of(policy, first, last);
+        let begins = self.best_ahead(policy, 0, ends);
+        self.best_ahead(policy, request.duration, begins)
+    }
+
+    // The start that is granted to the request and the claim that it is given there, if any.
+    pub fn find_claim<P: Policy>(&self, policy: &P) -> Option<Found<L>>
+        ensures { ascends 0 self.now.slots.now ≡ true → result ≡ found_in L.kind (P.preference policy.now) self.now }
+    {
+        let rectangle = self.find_start(policy)?;
+        let over = joined_over(self.slots, rectangle.start, self.request.duration);
+        let claim = over.pick(self.request.wanted, self.capacity)?;
+        Some(Found { rectangle, claim })
+    }
 }

@@ -3,6 +3,7 @@
 
 pub mod find;
 pub mod found;
+pub mod measure;
 pub mod policy;
 pub mod rectangle;
 pub mod request;

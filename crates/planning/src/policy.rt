@@ -1,8 +1,9 @@
 ghost use Rattle.std.specs.Prelude.{◌≡◌, true};
 ghost use Rattle.planning.specs.Policies.{Preference};
-ghost use Rattle.planning.specs.Rules.{stretch, product, earliest_start, fewest_free, most_free, shortest_stretch, longest_stretch, smallest_product, largest_product};
+ghost use Rattle.planning.specs.Rules.{lower, turned};
 ghost use Rattle.planning.specs.Tries.{EarlierFirst};
 
+use crate::measure::{FreeUnits, Measure, Product, Start, Stretch};
 use crate::rectangle::Rectangle;
 
 // Which of two rectangles is preferred.
@@ -20,104 +21,44 @@ pub trait Policy {
     }
 }
 
-// How many minutes a rectangle lasts.
-fn length_of(r: &Rectangle) -> u32
-    ensures { result ≡ stretch r.now }
-{
-    r.closing.saturating_sub(r.opening)
-}
-
-// Its free units times its minutes.
-fn product_of(r: &Rectangle) -> u64
-    ensures { result ≡ product r.now }
-{
-    u64::from(r.units) * u64::from(length_of(r))
-}
-
-// The earliest start.
+// The rectangle whose number is lower is preferred.
 #[derive(Clone, Copy)]
-pub struct EarliestStart;
+pub struct Least<M>(pub M);
 
-impl Policy for EarliestStart {
-    ghost preference = { λ _. earliest_start };
+impl<M: Measure> Policy for Least<M> {
+    ghost preference = { λ _. lower M.number };
 
     fn prefers(&self, a: &Rectangle, b: &Rectangle) -> bool {
-        a.start < b.start
+        self.0.of(a) < self.0.of(b)
     }
 
     fn earlier_first(&self) -> bool {
-        true
+        self.0.rises_with_start()
     }
 }
 
-// The fewest free units.
+// The one whose number is higher.
 #[derive(Clone, Copy)]
-pub struct FewestFree;
+pub struct Most<M>(pub M);
 
-impl Policy for FewestFree {
-    ghost preference = { λ _. fewest_free };
+impl<M: Measure> Policy for Most<M> {
+    ghost preference = { λ _. turned (lower M.number) };
 
     fn prefers(&self, a: &Rectangle, b: &Rectangle) -> bool {
-        a.units < b.units
+        self.0.of(a) > self.0.of(b)
     }
 }
 
-// The most free units.
-#[derive(Clone, Copy)]
-pub struct MostFree;
+pub const EARLIEST_START: Least<Start> = Least(Start);
 
-impl Policy for MostFree {
-    ghost preference = { λ _. most_free };
+pub const FEWEST_FREE: Least<FreeUnits> = Least(FreeUnits);
 
-    fn prefers(&self, a: &Rectangle, b: &Rectangle) -> bool {
-        a.units > b.units
-    }
-}
+pub const MOST_FREE: Most<FreeUnits> = Most(FreeUnits);
 
-// The shortest stretch.
-#[derive(Clone, Copy)]
-pub struct ShortestStretch;
+pub const SHORTEST_STRETCH: Least<Stretch> = Least(Stretch);
 
-impl Policy for ShortestStretch {
-    ghost preference = { λ _. shortest_stretch };
+pub const LONGEST_STRETCH: Most<Stretch> = Most(Stretch);
 
-    fn prefers(&self, a: &Rectangle, b: &Rectangle) -> bool {
-        length_of(a) < length_of(b)
-    }
-}
+pub const SMALLEST_PRODUCT: Least<Product> = Least(Product);
 
-// The longest stretch.
-#[derive(Clone, Copy)]
-pub struct LongestStretch;
-
-impl Policy for LongestStretch {
-    ghost preference = { λ _. longest_stretch };
-
-    fn prefers(&self, a: &Rectangle, b: &Rectangle) -> bool {
-        length_of(a) > length_of(b)
-    }
-}
-
-// The smallest product of free units and minutes.
-#[derive(Clone, Copy)]
-pub struct SmallestProduct;
-
-impl Policy for SmallestProduct {
-    ghost preference = { λ _. smallest_product };
-
-    fn prefers(&self, a: &Rectangle, b: &Rectangle) -> bool {
-        product_of(a) < product_of(b)
-    }
-}
-
-// The largest product of free units and minutes.
-#[derive(Clone, Copy)]
-pub struct LargestProduct;
-
-impl Policy for LargestProduct {
-    ghost preference = { λ _. largest_product };
-
-    fn prefers(&self, a: &Rectangle, b: &Rectangle) -> bool {
-        product_of(a) > product_of(b)
-    }
-}
+pub const LARGEST_PRODUCT: Most<Product> = Most(Product);

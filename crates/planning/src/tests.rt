@@ -1,4 +1,4 @@
-use crate::find::{find_claim, find_start};
+use crate::find::Search;
 use crate::policy::*;
 use crate::rectangle::Rectangle;
 use crate::request::Request;
@@ -7,18 +7,16 @@ use std::test::Fail;
 use units::crew::Crew;
 use units::stock::Stock;
 
+fn slot<L>(minute: u32, value: L) -> Slot<L> {
+    Slot { minute, value }
+}
+
 fn stocked(minute: u32, count: u64) -> Slot<Stock> {
-    Slot {
-        minute,
-        value: Stock { count },
-    }
+    slot(minute, Stock { count })
 }
 
 fn crewed(minute: u32, mask: u64) -> Slot<Crew> {
-    Slot {
-        minute,
-        value: Crew { mask },
-    }
+    slot(minute, Crew { mask })
 }
 
 // Between two busy stretches and after them; where two starts are as good, the earlier one counts.
@@ -35,19 +33,24 @@ fn start_by<P: Policy>(policy: &P) -> Option<u32> {
         deadline: 60,
         wanted: 5,
     };
-    let rectangle = find_start(&slots, 10, 100, request, policy)?;
-    Some(rectangle.start)
+    let search = Search {
+        slots: &slots,
+        capacity: 10,
+        horizon: 100,
+        request,
+    };
+    search.find_start(policy).map(|rectangle| rectangle.start)
 }
 
 #[test]
 fn seven_policies(rt: HostRuntime) {
-    assert_eq!(rt; start_by(&EarliestStart), Some(2));
-    assert_eq!(rt; start_by(&FewestFree), Some(20));
-    assert_eq!(rt; start_by(&MostFree), Some(30));
-    assert_eq!(rt; start_by(&ShortestStretch), Some(2));
-    assert_eq!(rt; start_by(&LongestStretch), Some(20));
-    assert_eq!(rt; start_by(&SmallestProduct), Some(2));
-    assert_eq!(rt; start_by(&LargestProduct), Some(30));
+    assert_eq!(rt; start_by(&EARLIEST_START), Some(2));
+    assert_eq!(rt; start_by(&FEWEST_FREE), Some(20));
+    assert_eq!(rt; start_by(&MOST_FREE), Some(30));
+    assert_eq!(rt; start_by(&SHORTEST_STRETCH), Some(2));
+    assert_eq!(rt; start_by(&LONGEST_STRETCH), Some(20));
+    assert_eq!(rt; start_by(&SMALLEST_PRODUCT), Some(2));
+    assert_eq!(rt; start_by(&LARGEST_PRODUCT), Some(30));
 }
 
 #[test]
@@ -64,9 +67,9 @@ fn products_beyond_32_bits(rt: HostRuntime) {
         opening: 0,
         closing: 1,
     };
-    assert!(rt; LargestProduct.prefers(&large, &small));
-    assert!(rt; SmallestProduct.prefers(&small, &large));
-    assert!(rt; !LargestProduct.prefers(&large, &large));
+    assert!(rt; LARGEST_PRODUCT.prefers(&large, &small));
+    assert!(rt; SMALLEST_PRODUCT.prefers(&small, &large));
+    assert!(rt; !LARGEST_PRODUCT.prefers(&large, &large));
 }
 
 #[test]
@@ -78,12 +81,21 @@ fn the_same_mechanics_throughout(rt: HostRuntime) -> Result<(), Fail> {
         deadline: 10,
         wanted: 1,
     };
-    assert!(rt; find_claim(&slots, 2, 100, request, &EarliestStart).is_none());
-    let later = Request {
-        deadline: 20,
-        ..request
+    let search = Search {
+        slots: &slots,
+        capacity: 2,
+        horizon: 100,
+        request,
     };
-    let found = find_claim(&slots, 2, 100, later, &EarliestStart).ok_or("none can")?;
+    assert!(rt; search.find_claim(&EARLIEST_START).is_none());
+    let later = Search {
+        request: Request {
+            deadline: 20,
+            ..request
+        },
+        ..search
+    };
+    let found = later.find_claim(&EARLIEST_START).ok_or("none can")?;
     assert_eq!(rt; found.rectangle.start, 5);
     assert_eq!(rt; found.claim.mask, 1);
     Ok(())
@@ -98,10 +110,19 @@ fn the_stretch_around_a_start(rt: HostRuntime) -> Result<(), Fail> {
         deadline: 40,
         wanted: 2,
     };
-    let found = find_claim(&slots, 4, 100, request, &MostFree).ok_or("none can")?;
-    assert_eq!(rt; found.rectangle.start, 15);
-    assert_eq!(rt; found.rectangle.units, 4);
-    assert_eq!(rt; found.rectangle.opening, 15);
-    assert_eq!(rt; found.rectangle.closing, 100);
+    let search = Search {
+        slots: &slots,
+        capacity: 4,
+        horizon: 100,
+        request,
+    };
+    let found = search.find_claim(&MOST_FREE).ok_or("none can")?;
+    let expected = Rectangle {
+        start: 15,
+        units: 4,
+        opening: 15,
+        closing: 100,
+    };
+    assert_eq!(rt; found.rectangle, expected);
     Ok(())
 }

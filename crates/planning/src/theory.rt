@@ -1,72 +1,68 @@
 //! The theorems of the search: the contract of each function is one, over every kind.
+ghost use Rattle.std.specs.Prelude.{◌≡◌};
+ghost use Rattle.planning.specs.Rules.{earliest_start, fewest_free, most_free, shortest_stretch, longest_stretch, smallest_product, largest_product};
 ghost use Rattle.planning.specs.Theorems.{FreeFalls, ClaimExists, FitsIsClear, Startable, SearchComplete, SearchSound, RectangleLongest, ChoiceBest, ChoiceOnly, AnyOrder};
 
+use crate::measure::{FreeUnits, Product, Start, Stretch};
+use crate::policy::*;
+
 // A load that covers more leaves no more free.
-pub fn free_falls<L>() -> u8
+pub fn free_falls<L>()
     ensures { FreeFalls L }
-{
-    0
-}
+{}
 
 // A claim of so many units exists exactly where as many are free.
-pub fn claim_exists<L>() -> u8
+pub fn claim_exists<L>()
     ensures { ClaimExists L }
-{
-    0
-}
+{}
 
 // A claim fits throughout a stretch exactly when it is clear of the joined loads.
-pub fn fits_is_clear<L>() -> u8
+pub fn fits_is_clear<L>()
     ensures { FitsIsClear L }
-{
-    0
-}
+{}
 
 // A request can start exactly where the units that it wants are free throughout.
-pub fn startable<L>() -> u8
+pub fn startable<L>()
     ensures { Startable L }
-{
-    0
-}
+{}
 
 // Where a request can start in its window, some candidate is feasible.
-pub fn search_complete<L>() -> u8
+pub fn search_complete<L>()
     ensures { SearchComplete L }
-{
-    0
-}
+{}
 
 // At each feasible candidate the request can start.
-pub fn search_sound<L>() -> u8
+pub fn search_sound<L>()
     ensures { SearchSound L }
-{
-    0
-}
+{}
 
 // The rectangle of a start is the longest stretch around it that adds nothing.
-pub fn rectangle_longest<L>() -> u8
+pub fn rectangle_longest<L>()
     ensures { RectangleLongest L }
-{
-    0
-}
+{}
 
 // None is preferred to the rectangle that is chosen, and none as good is earlier.
-pub fn choice_best() -> u8
+pub fn choice_best()
     ensures { ChoiceBest }
-{
-    0
-}
+{}
 
 // No other start is so.
-pub fn choice_only() -> u8
+pub fn choice_only()
     ensures { ChoiceOnly }
-{
-    0
-}
+{}
 
 // The starts may be tried in any order.
-pub fn any_order<L>() -> u8
+pub fn any_order<L>()
     ensures { AnyOrder L }
-{
-    0
-}
+{}
+
+// Each policy prefers as the rules say of it.
+pub fn policies_named()
+    ensures earliest_start { ⟦<Least<Start> as Policy>⟧.preference EARLIEST_START ≡ earliest_start }
+    ensures fewest_free { ⟦<Least<FreeUnits> as Policy>⟧.preference FEWEST_FREE ≡ fewest_free }
+    ensures most_free { ⟦<Most<FreeUnits> as Policy>⟧.preference MOST_FREE ≡ most_free }
+    ensures shortest_stretch { ⟦<Least<Stretch> as Policy>⟧.preference SHORTEST_STRETCH ≡ shortest_stretch }
+    ensures longest_stretch { ⟦<Most<Stretch> as Policy>⟧.preference LONGEST_STRETCH ≡ longest_stretch }
+    ensures smallest_product { ⟦<Least<Product> as Policy>⟧.preference SMALLEST_PRODUCT ≡ smallest_product }
+    ensures largest_product { ⟦<Most<Product> as Policy>⟧.preference LARGEST_PRODUCT ≡ largest_product }
+{}

@@ -1,15 +1,14 @@
-use Rattle.std.proofs.Common.{◌≡◌, suc, ◌-◌, length, sym, ap, ◌∙◌, arith}
+use Rattle.std.proofs.Common.{◌≡◌, ◌-◌, ◌<◌, ◌≤◌, length, get_or, List, Some, None, Option, Bor, rules, sym, ◌∙◌, ap, arith}
+use Rattle.std.specs.Prelude.{MatchOption, IfSome}
 use Rattle.std.proofs.lemmas.List.{nil_from_length}
 use Rattle.slots.specs.declared.slot.Slot.{Slot}
 use Rattle.planning.specs.Walks.{last_value}
 use Rattle.planning.proofs.Splits.{last_is}
 use Rattle.planning.proofs.walk.last_load.Goals as goal
 
-pub returns-then-count-eq0 : goal.returns-then-count-eq0
-returns-then-count-eq0 g c = c.nothing.ensures ∙ sym (ap (last_value g.L.Units.kind.nothing) (nil_from_length c.args.slots.now c.if-count-eq0.true))
+is_last : {L : Type 0} (nothing v : L) (xs : List (Slot L)) (o : Option (Bor (Slot L))) → MatchOption o (v ≡ nothing) (λ x. v ≡ x.now.value) → MatchOption o (length xs ≤ 0) (λ _. 0 < length xs) → IfSome o (λ x. x.now ≡ get_or xs (length xs - 1) x.now) → v ≡ last_value nothing xs
+is_last nothing v xs None told here last = told ∙ sym (ap (last_value nothing) (nil_from_length xs (omega arith)))
+is_last nothing v xs (Some x) told here last = told ∙ last_is nothing (length xs - 1) x.now xs (omega arith) last
 
-pub returns-else-count-eq0 : goal.returns-else-count-eq0
-returns-else-count-eq0 g c =
-    let xs = c.args.slots.now in
-    let size : suc (length xs - 1) ≡ length xs = omega arith in
-    ap (λ (v : Slot _). v.value) (sym c.index-slots-count.is) ∙ last_is g.L.Units.kind.nothing (length xs - 1) c.index-slots-count.result xs size c.index-slots-count.is
+pub returns : goal.returns
+returns g c = is_last g.L.Units.kind.nothing c.map_or.result c.args.slots.now c.last.result (search rules) (search rules) c.last.ensures.item.1
