@@ -1,7 +1,7 @@
 -- A board with one row more. Assumes nothing.
 use Rattle.std.proofs.Common.{◌≡◌, ℕ, ◌+◌, ◌*◌, ◌<◌, ◌≤◌, Bool, cond, List, [], ◌∷◌, ◌++◌, length, take, drop, set, Decides, sym, refl, ap, ◌∙◌, subst, arith}
 use Rattle.std.proofs.lemmas.List.{length-take, length-append}
-use Rattle.slots.specs.Memory.{Laid, laid}
+use Rattle.lent.specs.Memory.{Laid, laid}
 use Rattle.slots.specs.SlotLists.{records, Tidy, changeable, Rewritten}
 use Rattle.slots.specs.Stepped.{edited}
 use Rattle.slots.specs.Steps.{lacks}

@@ -1,10 +1,10 @@
 -- A board with all rows taken out, and other numbers. Assumes nothing.
 use Rattle.std.proofs.Common.{◌≡◌, ℕ, ◌-◌, ◌*◌, [], ◌++◌, length, take, drop, replicate, sym, refl, ap, ◌∙◌, subst, arith}
-use Rattle.slots.specs.Memory.{Laid, laid}
+use Rattle.lent.specs.Memory.{Laid, laid}
 use Rattle.slots.specs.SlotLists.{Tidy, Rewritten}
 use Rattle.slots.specs.Stepped.{slot_of}
 use Rattle.slots.specs.declared.list.SlotList.{SlotList}
-use Rattle.slots.proofs.Blanks.{laid_over}
+use Rattle.lent.proofs.Blanks.{laid_over}
 use Rattle.units.specs.Kinds.{Kind, Lawful}
 use Rattle.bookings.specs.Rows.{blank_row}
 use Rattle.bookings.specs.declared.row.Row.{Row}

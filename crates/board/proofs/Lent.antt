@@ -1,8 +1,8 @@
 -- The lent rows as one comes, changes or goes, and what is in use and blank then. Assumes nothing.
 use Rattle.std.proofs.Common.{◌≡◌, ℕ, suc, ◌+◌, ◌-◌, ◌<◌, ◌≤◌, List, [], ◌∷◌, ◌++◌, length, take, drop, set, replicate, sym, ap, ◌∙◌, subst, ap₂, add-one, arith}
 use Rattle.std.proofs.lemmas.List.{append_assoc, length-append, length-replicate, length-take, length-drop, take-take, drop-take, drop_at, set_at, set-append_left, set_split}
-use Rattle.slots.specs.Memory.{Laid, laid}
-use Rattle.slots.proofs.Blanks.{laid_holds, laid_is, laid_now}
+use Rattle.lent.specs.Memory.{Laid, laid}
+use Rattle.lent.proofs.Blanks.{laid_holds, laid_is, laid_now}
 use Rattle.board.specs.Shifts.{closed}
 
 -- memory in which ys are now in use

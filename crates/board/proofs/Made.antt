@@ -1,7 +1,7 @@
 -- A new board, from the numbers that were cut to 0 where they are refused. Assumes nothing.
 use Rattle.std.proofs.Common.{◌≡◌, ℕ, ◌*◌, ◌≤◌, Bool, true, false, cond, not, List, [], length, take, is_some, Some, None, Option, sym, refl, ap, ◌∙◌, subst, arith}
-use Rattle.slots.specs.Memory.{Laid, laid}
-use Rattle.slots.proofs.Blanks.{laid_is}
+use Rattle.lent.specs.Memory.{Laid, laid}
+use Rattle.lent.proofs.Blanks.{laid_is}
 use Rattle.units.specs.Kinds.{Kind, Lawful}
 use Rattle.bookings.specs.declared.refusal.Refusal.{Refusal}
 use Rattle.board.specs.Calls.{Holding, set_up_check, opened, made}

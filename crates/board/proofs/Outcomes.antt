@@ -1,6 +1,6 @@
 -- What a board's parts come to after a change of rows and slots, gathered for the board's ghost fields and contracts. Assumes nothing.
 use Rattle.std.proofs.Common.{◌≡◌, ℕ, ◌*◌, ◌≤◌, List, length, take, drop, arith}
-use Rattle.slots.specs.Memory.{Laid}
+use Rattle.lent.specs.Memory.{Laid}
 use Rattle.slots.specs.Stepped.{slot_of}
 use Rattle.slots.specs.declared.list.SlotList.{SlotList}
 use Rattle.units.specs.Kinds.{Kind}

@@ -1,7 +1,7 @@
 -- A board's slot list after a change over a span for which there is room. Assumes nothing.
 use Rattle.std.proofs.Common.{◌≡◌, ℕ, ◌+◌, ◌<◌, ◌≤◌, Bool, true, cond, ltb, leb, List, length, take, drop, Decides, sym, ap, ◌∙◌, subst, arith}
 use Rattle.std.proofs.lemmas.Bool.{le-leb, lt-ltb, and_from}
-use Rattle.slots.specs.Memory.{Laid}
+use Rattle.lent.specs.Memory.{Laid}
 use Rattle.slots.specs.Stepped.{slot_of, Canonical, edited}
 use Rattle.slots.specs.Steps.{lacks}
 use Rattle.slots.specs.SlotLists.{records, Tidy, changeable, Rewritten}

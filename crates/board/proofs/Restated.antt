@@ -1,7 +1,7 @@
 -- A board with one row's state changed. Assumes nothing.
 use Rattle.std.proofs.Common.{◌≡◌, ℕ, ◌*◌, ◌<◌, ◌≤◌, List, [], ◌∷◌, length, get_or, take, drop, set, Some, sym, refl, ap, ◌∙◌, subst, arith}
 use Rattle.std.proofs.lemmas.List.{length-take, length-drop, length-append}
-use Rattle.slots.specs.Memory.{Laid, laid}
+use Rattle.lent.specs.Memory.{Laid, laid}
 use Rattle.units.specs.Kinds.{Kind, Lawful}
 use Rattle.bookings.specs.Rows.{row_of, blank_row, numbered, replaced}
 use Rattle.bookings.specs.declared.row.Row.{Row}

@@ -1,6 +1,6 @@
 -- What a board's witness tells, said of the board itself, and boards by their parts. Assumes nothing.
 use Rattle.std.proofs.Common.{◌≡◌, ℕ, List, ◌∙◌, subst, ap₂}
-use Rattle.slots.specs.Memory.{Laid}
+use Rattle.lent.specs.Memory.{Laid}
 use Rattle.slots.specs.Stepped.{slot_of}
 use Rattle.slots.specs.declared.slot.Slot.{Slot}
 use Rattle.units.specs.Kinds.{Kind}

@@ -1,6 +1,6 @@
 // Reading a board, and handing its memory back.
 ghost use Rattle.std.specs.Prelude.{◌≡◌};
-ghost use Rattle.slots.specs.Memory.{laid};
+ghost use Rattle.lent.specs.Memory.{laid};
 ghost use Rattle.slots.specs.Stepped.{at, slot_of};
 ghost use Rattle.bookings.specs.Rows.{blank_row, bookings};
 ghost use Rattle.bookings.specs.Bookings.{load_at};

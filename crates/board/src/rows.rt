@@ -1,6 +1,6 @@
 // The rows of a board in lent memory: the first `room` are its own, and the first `count` of them hold bookings.
 ghost use Rattle.std.specs.Prelude.{◌≡◌, ◌+◌, ◌-◌, ◌<◌, ◌≤◌, [], length, take, slice_index_or, slice_set};
-ghost use Rattle.slots.specs.Memory.{laid};
+ghost use Rattle.lent.specs.Memory.{laid};
 ghost use Rattle.board.specs.Shifts.{closed, blanked};
 ghost use Rattle.board.specs.Places.{Placed};
 

@@ -1,6 +1,6 @@
 // Setting a board up over lent memory.
 ghost use Rattle.std.specs.Prelude.{◌≡◌, ◌*◌, ◌≤◌, [], length, take, if◌then◌else◌};
-ghost use Rattle.slots.specs.Memory.{laid};
+ghost use Rattle.lent.specs.Memory.{laid};
 ghost use Rattle.slots.specs.Stepped.{slot_of};
 ghost use Rattle.bookings.specs.Rows.{blank_row};
 ghost use Rattle.board.specs.Calls.{set_up_check, made};

@@ -1,7 +1,7 @@
 use Rattle.std.proofs.Common.{ap, ◌∙◌}
-use Rattle.slots.specs.Memory.{laid}
+use Rattle.lent.specs.Memory.{laid}
 use Rattle.slots.specs.Stepped.{slot_of}
-use Rattle.slots.proofs.Blanks.{laid_now}
+use Rattle.lent.proofs.Blanks.{laid_now}
 use Rattle.bookings.specs.Rows.{blank_row}
 use Rattle.board.specs.Views.{holding}
 use Rattle.board.proofs.Told.{kept_of, rows_laid, slots_laid}

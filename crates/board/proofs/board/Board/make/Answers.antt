@@ -1,5 +1,5 @@
 use Rattle.std.proofs.Common.{[], length, take, sym, refl, ap, ◌∙◌, ap₂, arith}
-use Rattle.slots.specs.Memory.{laid}
+use Rattle.lent.specs.Memory.{laid}
 use Rattle.slots.specs.Stepped.{slot_of}
 use Rattle.bookings.specs.Rows.{blank_row}
 use Rattle.board.proofs.Made.{new_laid, none_used, made_is, rows_suffice, records_suffice, new_kept}
