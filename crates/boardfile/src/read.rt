@@ -22,12 +22,9 @@ fn header_allowed<L: Filed>(header: Header) -> bool
     ensures { result ≡ header_allowed L.Units.kind L.Filed.filing header }
 {
     header.kind == L::code()
-        && 1 <= header.capacity
-        && header.capacity <= L::most()
-        && 1 <= header.horizon
-        && header.horizon <= MOST_MINUTES
-        && 1 <= header.next
-        && header.next <= MOST_NEXT
+        && (1..=L::most()).contains(&header.capacity)
+        && (1..=MOST_MINUTES).contains(&header.horizon)
+        && (1..=MOST_NEXT).contains(&header.next)
         && header.offset == ROWS_AT
 }
 
@@ -46,6 +43,7 @@ fn state_numbered(number: u32) -> State
 }
 
 // The row that 24 bytes write.
+// Stays: an impl of `From` between bytes and rows would stand with neither its trait nor its types.
 fn row_in<L: Filed>(bytes: &[u8; 24]) -> Row<L>
     ensures { result ≡ row_in L.filing bytes.now }
 {
@@ -67,8 +65,7 @@ fn row_allowed<L: Units>(row: &Row<L>, header: Header, low: u32) -> bool
     ensures { result ≡ row_allowed L.kind header low row.now }
 {
     let claim = row.booking.claim;
-    low <= row.number
-        && row.number < header.next
+    (low..header.next).contains(&row.number)
         && row.booking.start < row.booking.end
         && row.booking.end <= header.horizon
         && is_settled(row.state)

@@ -6,6 +6,7 @@ use crate::filed::Filed;
 use bookings::row::Row;
 
 // The bytes of a row.
+// Stays: an impl of `From` between bytes and rows would stand with neither its trait nor its types.
 pub fn row_bytes<L: Filed>(row: Row<L>) -> [u8; 24]
     ensures { result ≡ row_bytes L.filing row }
 {
