@@ -1,76 +1,94 @@
--- A board with one row more. Assumes nothing.
-use Rattle.std.proofs.Common.{◌≡◌, ℕ, ◌+◌, ◌*◌, ◌<◌, ◌≤◌, Bool, cond, List, [], ◌∷◌, ◌++◌, length, take, drop, set, Decides, sym, refl, ap, ◌∙◌, subst, arith}
-use Rattle.std.proofs.lemmas.List.{length-take, length-append}
-use Rattle.lent.specs.Memory.{Laid, laid}
-use Rattle.slots.specs.SlotLists.{records, Tidy, changeable, Rewritten}
+-- A board with one row more, with one row's state changed, with one row taken out, and with all taken out. Assumes nothing.
+use Rattle.std.proofs.Common.{◌≡◌, ℕ, ◌+◌, ◌*◌, ◌<◌, ◌≤◌, Bool, List, [], ◌∷◌, ◌++◌, length, nat_lt, get_or, set, take, drop, Some, None, Option, Result, is_ok, if◌then◌else◌, Decides, sym, refl, ap, ◌∙◌, subst, add-one, arith}
+use Rattle.std.proofs.lemmas.Bool.{lt-ltb}
+use Rattle.std.proofs.lemmas.List.{set_split}
+use Rattle.std.proofs.lemmas.List.Edits.{insert_end}
+use Rattle.std.specs.List.{insert, remove}
+use Rattle.std.specs.declared.cmp.PartialEq as equality
+use Rattle.lent.specs.Lists.{items, Refilled}
+use Rattle.lent.specs.declared.lent.Lent.{Lent}
+use Rattle.lent.specs.declared.lent.NoRoom.{NoRoom}
+use Rattle.lent.proofs.Refills.{kept}
+use Rattle.slots.specs.SlotLists.{records, change_answer, Rewritten}
 use Rattle.slots.specs.Stepped.{edited}
 use Rattle.slots.specs.Steps.{lacks}
 use Rattle.slots.specs.declared.list.SlotList.{SlotList}
+use Rattle.slots.specs.declared.list.Unchanged.{Unchanged}
 use Rattle.units.specs.Kinds.{Kind, Lawful}
+use Rattle.units.specs.declared.kind.Units as units
 use Rattle.bookings.specs.Bookings.{FitsBeside}
-use Rattle.bookings.specs.Rows.{blank_row, bookings}
+use Rattle.bookings.specs.Rows.{bookings, numbered, replaced, row_of}
 use Rattle.bookings.specs.declared.booking.Booking.{Booking}
 use Rattle.bookings.specs.declared.row.Row.{Row}
-use Rattle.board.specs.Adding.{MayEnter, with_row}
-use Rattle.board.specs.Keeping.{Kept}
+use Rattle.bookings.specs.declared.row.State.{State}
+use Rattle.bookings.specs.declared.row.State.TheVariants.{Blank}
+use Rattle.board.specs.Adding.{MayEnter, NumbersFit}
+use Rattle.board.specs.Places.{Placed}
 use Rattle.board.specs.Views.{holding}
 use Rattle.board.specs.declared.board.Board.{Board}
-use Rattle.board.specs.declared.rows.RowList.{RowList}
-use Rattle.board.proofs.Keeps.{room_to_enter, enters_kept}
-use Rattle.board.proofs.Lent.{now_laid, now_used, now_behind, pushed}
-use Rattle.board.proofs.Outcomes.{Outcome}
-use Rattle.board.proofs.Reslotted.{slots_floor, slots_room, slots_now_laid, slots_now, slots_behind}
-use Rattle.board.proofs.Told.{same_holding, Tells, kept_of, rows_laid}
+use Rattle.board.proofs.Keeps.{laws, proper_one, room_to_enter, room_to_remove, enters_kept, state_kept, gone_kept, emptied_kept}
+use Rattle.board.proofs.Outcomes.{Outcome, outcome}
+use Rattle.board.proofs.Reslotted.{reslotted, same_list}
 
-module _ {L : Type 0} (k : Kind L) (lawful : Lawful k) (was : Board L) (tells : Tells k was) (next : ℕ) (row : Row L) (may : MayEnter k (holding was) next row) (beside : FitsBeside k was.capacity (bookings (holding was).book.rows) row.booking) where
-  kept : Kept k was.slots.floor (holding was)
-  kept = kept_of k was tells
+-- the row that was read at its place is the row of that number
+pub read_is : {L : Type 0} (n place : ℕ) (rows : List (Row L)) (row : Row L) → Placed n rows (Some place) → row ≡ get_or rows place row → numbered n rows ≡ Some row
+read_is n place rows row placed read = placed.1 row ∙ ap (λ r. Some r) (sym read)
 
-  abbrev x : Booking L
-  x = row.booking
+module _ {L : Type 0} {u : units.Ghosts L} {e : equality.Ghosts L} (lawful : Lawful u.kind) (was : Board L u e) where
+  abbrev k : Kind L
+  k = u.kind
 
   abbrev live : List (Row L)
-  live = (holding was).book.rows
+  live = items was.rows
 
-  abbrev empty : Row L
-  empty = blank_row was.slots.floor
+  -- a change of the slots over a booking's span, where the records find room
+  module _ (same : L → L → Bool) (told : (a b : L) → Decides (same a b) (a ≡ b)) (f : L → L) (from until : ℕ) (span : from < until)
+      (enough : length (records was.slots) + (lacks from (records was.slots) + lacks until (records was.slots)) ≤ 2 * was.rows.room) (q : Result (Unit {0}) Unchanged) (slots : SlotList L)
+      (answer : q ≡ change_answer from until was.slots.lent.room (records was.slots))
+      (list : Rewritten was.slots (if is_ok q then edited same f from until was.slots.floor (records was.slots) else records was.slots) slots) where
+    respanned : Rewritten was.slots (edited k.same f from until k.nothing (records was.slots)) slots
+    respanned = reslotted k was.capacity (laws k lawful was.slots.floor (holding was) was.keeping) same told was.slots was.keeping.floor_is f from until span (omega (arith, enough, was.slots_room)) q slots answer list
 
-  long : length live ≡ was.rows.count
-  long = let a = was.rows_used in let b = was.rows_fit in simp length-take (omega arith)
+  -- ONE MORE
+  module _ (same : L → L → Bool) (told : (a b : L) → Decides (same a b) (a ≡ b)) (next : ℕ) (row : Row L) (may : MayEnter k (holding was) next row) (beside : FitsBeside k was.capacity (bookings live) row.booking)
+      (below : ℕ) (below_is : below ≡ length live) (r : Result (Unit {0}) NoRoom) (rows : Lent (Row L)) (room : is_ok r ≡ nat_lt (length live) was.rows.room) (list : Refilled was.rows (if is_ok r then insert live below row else live) rows)
+      (q : Result (Unit {0}) Unchanged) (slots : SlotList L) (answer : q ≡ change_answer row.booking.start row.booking.end was.slots.lent.room (records was.slots))
+      (list' : Rewritten was.slots (if is_ok q then edited same (k.put was.capacity row.booking.claim) row.booking.start row.booking.end was.slots.floor (records was.slots) else records was.slots) slots) where
+    longer : Refilled was.rows (live ++ row ∷ []) rows
+    longer =
+        subst (λ xs. Refilled was.rows xs rows) (ap (λ (n : ℕ). insert live n row) below_is ∙ insert_end live row)
+        (subst (λ (b : Bool). Refilled was.rows (if b then insert live below row else live) rows) (room ∙ lt-ltb (length live) was.rows.room may.a_row_left) list)
 
-  pub a_row_left : was.rows.count < was.rows.room
-  a_row_left = omega (arith, long, may.a_row_left)
+    pub added : Outcome k was rows slots was.capacity was.horizon next (live ++ row ∷ []) (edited k.same (k.put was.capacity row.booking.claim) row.booking.start row.booking.end k.nothing (records was.slots))
+    added =
+        outcome k was rows slots was.capacity was.horizon next _ _ longer
+        (respanned same told (k.put was.capacity row.booking.claim) row.booking.start row.booking.end may.proper.has_minutes (room_to_enter k lawful was.slots.floor (holding was) was.keeping row.booking.start row.booking.end may.a_row_left) q slots answer list')
+        (enters_kept k lawful was.slots.floor (holding was) was.keeping next row may beside)
 
-  module _ (is : RowList L) (wrote-is : is.rows.now ≡ set was.rows.rows.now was.rows.count row) (count-is : is.count ≡ was.rows.count + 1) (room_is : is.room ≡ was.rows.room) where
-    memory : is.rows.now ≡ laid empty was.rows.room (live ++ (row ∷ [])) was.rows.rows.now
-    memory = wrote-is ∙ pushed empty was.rows.count was.rows.room was.rows.rows.now (rows_laid was) row a_row_left
+  -- A ROW THAT STANDS
+  module _ (n place : ℕ) (placed : Placed n live (Some place)) (row : Row L) (read : row ≡ get_or live place row) where
+    pub numbered_is : numbered n live ≡ Some row
+    numbered_is = read_is n place live row placed read
 
-    many : is.count ≡ length (live ++ (row ∷ []))
-    many = count-is ∙ sym (simp length-append (omega (arith, long)))
+    module _ (s : State) (there : s ≡ Blank → ⊥) (rows : Lent (Row L)) (list : Refilled was.rows (set live place (row_of row.number row.booking s)) rows) where
+      pub restated : Outcome k was rows was.slots was.capacity was.horizon was.next (replaced n (row_of row.number row.booking s ∷ []) live) (records was.slots)
+      restated =
+          let new = row_of row.number row.booking s in
+          let made : set live place new ≡ replaced n (new ∷ []) live = set_split live place new placed.0 ∙ ap (λ (i : ℕ). take place live ++ new ∷ drop i live) (sym (add-one place)) ∙ sym (placed.2 (new ∷ [])) in
+          outcome k was rows was.slots was.capacity was.horizon was.next _ _ (subst (λ xs. Refilled was.rows xs rows) made list) (same_list was.slots)
+          (state_kept k lawful was.slots.floor (holding was) was.keeping n row numbered_is s there)
 
-    fits : length (live ++ (row ∷ [])) ≤ was.rows.room
-    fits = omega (arith, many, count-is, a_row_left)
+    module _ (same : L → L → Bool) (told : (a b : L) → Decides (same a b) (a ≡ b)) (rows : Lent (Row L)) (list : Refilled was.rows (remove live place) rows)
+        (q : Result (Unit {0}) Unchanged) (slots : SlotList L) (answer : q ≡ change_answer row.booking.start row.booking.end was.slots.lent.room (records was.slots))
+        (list' : Rewritten was.slots (if is_ok q then edited same (k.lift row.booking.claim) row.booking.start row.booking.end was.slots.floor (records was.slots) else records was.slots) slots) where
+      pub unbooked : Outcome k was rows slots was.capacity was.horizon was.next (replaced n [] live) (edited k.same (k.lift row.booking.claim) row.booking.start row.booking.end k.nothing (records was.slots))
+      unbooked =
+          let made : remove live place ≡ replaced n [] live = ap (λ (i : ℕ). take place live ++ drop i live) (sym (add-one place)) ∙ sym (placed.2 []) in
+          let span = (proper_one k was.horizon n live row was.keeping.proper numbered_is).has_minutes in
+          outcome k was rows slots was.capacity was.horizon was.next _ _ (subst (λ xs. Refilled was.rows xs rows) made list)
+          (respanned same told (k.lift row.booking.claim) row.booking.start row.booking.end span (room_to_remove k lawful was.slots.floor (holding was) was.keeping n row numbered_is) q slots answer list')
+          (gone_kept k lawful was.slots.floor (holding was) was.keeping n row numbered_is)
 
-    module _ (same : L → L → Bool) (told : (a b : L) → Decides (same a b) (a ≡ b)) (r : Bool) (slots : SlotList L)
-        (answer : Tidy was.slots → r ≡ changeable x.start x.end was.slots.room (records was.slots))
-        (list : Tidy was.slots → Rewritten was.slots (cond r (edited same (k.put was.capacity x.claim) x.start x.end was.slots.floor (records was.slots)) (records was.slots)) slots) where
-      enough : length (holding was).slots + (lacks x.start (holding was).slots + lacks x.end (holding was).slots) ≤ was.slots.room
-      enough = omega (arith, room_to_enter k lawful was.slots.floor (holding was) kept x.start x.end may.a_row_left, was.slots_room)
-
-      pub added_now : Outcome k was is slots was.capacity was.horizon next (with_row k (holding was) next row)
-      added_now =
-          let f = k.put was.capacity x.claim in
-          let span = may.proper.has_minutes in
-          let floor = slots_floor k lawful same told was tells f x.start x.end span enough r slots answer list in
-          let after = same_holding was.capacity was.horizon next next is.room was.rows.room (take is.count is.rows.now) (live ++ (row ∷ [])) (take slots.used slots.slots.now) _ room_is refl
-          (now_used empty empty refl was.rows.room was.rows.rows.now (live ++ (row ∷ [])) is.rows.now is.count fits was.rows_fit memory many)
-          (slots_now k lawful same told was tells f x.start x.end span enough r slots answer list) in
-          record {
-            rows_laid = subst (λ (n : ℕ). Laid (blank_row slots.floor) is.count n is.rows.now) (sym room_is) (now_laid empty (blank_row slots.floor) (ap blank_row floor) was.rows.room was.rows.rows.now (live ++ (row ∷ [])) is.rows.now is.count fits was.rows_fit memory many);
-            slots_laid = slots_now_laid k lawful same told was tells f x.start x.end span enough r slots answer list;
-            rooms = slots_room k lawful same told was tells f x.start x.end span enough r slots answer list ∙ was.slots_room ∙ ap (λ (m : ℕ). 2 * m) (sym room_is);
-            holding_is = after;
-            kept = subst (Kept k slots.floor) (sym after) (subst (λ v. Kept k v (with_row k (holding was) next row)) (sym floor) (enters_kept k lawful was.slots.floor (holding was) kept next row may beside));
-            rows_behind = ap (λ (n : ℕ). drop n is.rows.now) room_is ∙ now_behind empty empty refl was.rows.room was.rows.rows.now (live ++ (row ∷ [])) is.rows.now is.count fits was.rows_fit memory many;
-            slots_behind = slots_behind k lawful same told was tells f x.start x.end span enough r slots answer list;
-          }
+  -- NONE
+  pub emptied_now : (c h next : ℕ) → NumbersFit k c h next → (rows : Lent (Row L)) (slots : SlotList L) → Refilled was.rows [] rows → Rewritten was.slots [] slots → Outcome k was rows slots c h next [] []
+  emptied_now c h next numbers rows slots r s = outcome k was rows slots c h next [] [] r s (emptied_kept k lawful was.slots.floor c h was.rows.room next was.keeping.floor_is numbers was.keeping.room_fits)

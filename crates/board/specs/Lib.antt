@@ -3,7 +3,6 @@ pub mod Files
 pub mod Keeping
 pub mod Adding
 pub mod FileSteps
-pub mod Shifts
 pub mod Places
 pub mod Theorems
 pub mod FileTheorems

@@ -1,12 +1,13 @@
 -- What the calls return, by what they are answered. Assumes nothing.
-use Rattle.std.specs.Prelude.{◌≡◌, ℕ, Bool, true, false, Ok, Err, Result}
+use Rattle.std.specs.Prelude.{◌≡◌, ℕ, false, Option, None, Some, Ok, Err, Result}
 use Rattle.units.specs.Kinds.{Kind}
 use Rattle.bookings.specs.Table.{Fate, becomes, leaves, barred}
 use Rattle.bookings.specs.declared.booking.Booking.{Booking}
+use Rattle.bookings.specs.declared.event.Event.{Event}
 use Rattle.bookings.specs.declared.event.Event.TheVariants.{Confirm, Release}
 use Rattle.bookings.specs.declared.refusal.Refusal.{Refusal}
 use Rattle.bookings.specs.declared.refusal.Refusal.TheVariants.{NoGap}
-use Rattle.board.specs.Calls.{Holding, Answer, given, done, refused, move, answer}
+use Rattle.board.specs.Calls.{Holding, Answer, given, done, refused, move, answer, wrong_state}
 use Rattle.board.specs.declared.grant.Grant.{Grant}
 use Rattle.board.specs.declared.token.HoldToken.{HoldToken}
 
@@ -24,11 +25,16 @@ handed token (Err why) = Err token
 abbrev pub token_result : {L : Type 0} → HoldToken → Answer L → Result (Unit {0}) HoldToken
 token_result token answer = handed token (done_result answer)
 
--- the table lets the event happen
-abbrev pub done_by : Fate → Bool
-done_by (becomes s) = true
-done_by leaves = true
-done_by barred = false
+-- nothing stands against it, or the refusal
+abbrev pub allowed : Option Refusal → Result (Unit {0}) Refusal
+allowed None = Ok tt
+allowed (Some why) = Err why
+
+-- the table lets the event happen, or its state bars it
+abbrev pub done_by : Event → Fate → Result (Unit {0}) Refusal
+done_by event (becomes s) = Ok tt
+done_by event leaves = Ok tt
+done_by event barred = Err (wrong_state event)
 
 -- a booking under its number, with its token, not yet spent
 abbrev pub grant_of : {L : Type 0} → ℕ → Booking L → Grant L

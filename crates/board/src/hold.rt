@@ -2,9 +2,9 @@
 ghost use Rattle.std.specs.Prelude.{◌≡◌, ◌+◌, ◌≤◌, None, Ok, nat_lt};
 ghost use Rattle.bookings.specs.Grants.{booked};
 ghost use Rattle.board.specs.Calls.{hold, hold_check, answer, after, with_booking};
-ghost use Rattle.board.specs.Results.{hold_result, grant_of, Takes};
+ghost use Rattle.board.specs.Results.{allowed, hold_result, grant_of, Takes};
 ghost use Rattle.board.specs.Seeking.{Findable, Sought};
-ghost use Rattle.board.specs.Views.{holding, behind};
+ghost use Rattle.board.specs.Views.{holding, SameMemory};
 
 use crate::board::Board;
 use crate::grant::Grant;
@@ -12,7 +12,7 @@ use crate::token::HoldToken;
 use bookings::booking::Booking;
 use bookings::refusal::Refusal;
 use bookings::row::{Row, State};
-use planning::find::find_claim;
+use planning::find::Search;
 use planning::found::Found;
 use planning::policy::Policy;
 use planning::request::Request;
@@ -37,39 +37,38 @@ fn number_after(number: u32) -> u32
 
 impl<'m, L: Units> Board<'m, L> {
     // What stands against a hold, before any search.
-    pub fn hold_check(&self, request: Request) -> Option<Refusal>
-        ensures { result ≡ hold_check (holding self.now).book request }
+    pub fn hold_check(&self, request: Request) -> Result<(), Refusal>
+        ensures { result ≡ allowed (hold_check (holding self.now).book request) }
     {
         if request.duration == 0 {
-            return Some(Refusal::Duration);
+            return Err(Refusal::Duration);
         }
         if request.wanted == 0 || self.capacity < request.wanted {
-            return Some(Refusal::Wanted);
+            return Err(Refusal::Wanted);
         }
         if self.horizon < request.deadline || ends_late(request) {
-            return Some(Refusal::Window);
+            return Err(Refusal::Window);
         }
-        if self.rows.room <= self.rows.count {
-            return Some(Refusal::Full);
+        if self.rows.spare() == 0 {
+            return Err(Refusal::Full);
         }
         if LAST_NUMBER < self.next {
-            return Some(Refusal::NumbersUsedUp);
+            return Err(Refusal::NumbersUsedUp);
         }
-        None
+        Ok(())
     }
 
     // The start and the claim that the search over the slot list finds.
     fn sought<P: Policy>(&self, request: Request, policy: &P) -> Option<Found<L>>
         ensures { Sought L.kind (holding self.now) request (P.preference policy.now) result }
     {
-        self.witness.told();
-        find_claim(
-            self.slots.records(),
-            self.capacity,
-            self.horizon,
+        let search = Search {
+            slots: self.slots.records(),
+            capacity: self.capacity,
+            horizon: self.horizon,
             request,
-            policy,
-        )
+        };
+        search.find_claim(policy)
     }
 
     // Enters the booking that was found under the next number, and puts its claim on the slots of its span.
@@ -78,10 +77,8 @@ impl<'m, L: Units> Board<'m, L> {
         ensures answer { result ≡ grant_of self.old.next (booked request found.rectangle.start found.claim) }
         ensures board { holding self.new ≡ with_booking L.kind (holding self.old) (booked request found.rectangle.start found.claim) }
         ensures takes { Takes L.kind (holding self.new) (Ok result) }
-        ensures rest { behind self.new ≡ behind self.old }
-        ensures lent { (self.new.rows.rows.ghost_name ≡ self.old.rows.rows.ghost_name) × (self.new.slots.slots.ghost_name ≡ self.old.slots.slots.ghost_name) }
+        ensures memory { SameMemory self.old self.new }
     {
-        self.witness.told();
         let number = self.next;
         let start = found.rectangle.start;
         let end = start + request.duration;
@@ -109,15 +106,10 @@ impl<'m, L: Units> Board<'m, L> {
         ensures answer { result ≡ hold_result (answer L.kind (holding self.old) (hold request (P.preference policy.now))) }
         ensures board { holding self.new ≡ after L.kind (holding self.old) (hold request (P.preference policy.now)) }
         ensures takes { Takes L.kind (holding self.new) result }
-        ensures rest { behind self.new ≡ behind self.old }
-        ensures lent { (self.new.rows.rows.ghost_name ≡ self.old.rows.rows.ghost_name) × (self.new.slots.slots.ghost_name ≡ self.old.slots.slots.ghost_name) }
+        ensures memory { SameMemory self.old self.new }
     {
-        if let Some(refusal) = self.hold_check(request) {
-            return Err(refusal);
-        }
-        match self.sought(request, policy) {
-            None => Err(Refusal::NoGap),
-            Some(found) => Ok(self.enter(request, found)),
-        }
+        self.hold_check(request)?;
+        let found = self.sought(request, policy).ok_or(Refusal::NoGap)?;
+        Ok(self.enter(request, found))
     }
 }

@@ -8,7 +8,7 @@ ghost use Rattle.board.specs.Adding.{MayEnter, with_row, emptied};
 ghost use Rattle.board.specs.Files.{load_answer, load_after};
 ghost use Rattle.board.specs.FileSteps.{fault_result, for_fault, headed};
 ghost use Rattle.board.specs.Results.{done_result};
-ghost use Rattle.board.specs.Views.{holding, behind};
+ghost use Rattle.board.specs.Views.{holding, SameMemory};
 
 use crate::board::Board;
 use boardfile::filed::Filed;
@@ -24,7 +24,7 @@ impl<'m, L: Units> Board<'m, L> {
     fn stands(&self) -> bool
         ensures { result ≡ nat_lt 0 (length (holding self.now).book.rows) }
     {
-        0 < self.rows.count
+        0 < self.rows.items().len()
     }
 
     // Is the row's claim clear of what stands at each of its minutes?
@@ -32,7 +32,6 @@ impl<'m, L: Units> Board<'m, L> {
         requires { row.booking.start < row.booking.end }
         ensures { result ≡ fits_in L.kind self.now.capacity (bookings (holding self.now).book.rows) row.booking }
     {
-        self.witness.told();
         let start = row.booking.start;
         let duration = row.booking.end - start;
         let load = joined_over(self.slots.records(), start, duration);
@@ -45,8 +44,7 @@ impl<'m, L: Units> Board<'m, L> {
         ensures answer { result ≡ (if fits_in L.kind self.old.capacity (bookings (holding self.old).book.rows) row.booking then Ok tt else Err (Clash index)) }
         ensures board { result ≡ Ok tt → holding self.new ≡ with_row L.kind (holding self.old) self.old.next row }
         ensures room { self.new.rows.room ≡ self.old.rows.room }
-        ensures rest { behind self.new ≡ behind self.old }
-        ensures lent { (self.new.rows.rows.ghost_name ≡ self.old.rows.rows.ghost_name) × (self.new.slots.slots.ghost_name ≡ self.old.slots.slots.ghost_name) }
+        ensures memory { SameMemory self.old self.new }
     {
         if !self.fits_in(row) {
             return Err(FileFault::Clash(index));
@@ -64,8 +62,7 @@ impl<'m, L: Filed> Board<'m, L> {
         ensures answer { result ≡ fault_result (rows_fault L.Units.kind header 1 [] 0 (map (row_in L.Filed.filing) rows.now)) }
         ensures book { result ≡ Ok tt → (holding self.new).book ≡ headed header self.old.rows.room (map (row_in L.Filed.filing) rows.now) }
         ensures room { self.new.rows.room ≡ self.old.rows.room }
-        ensures rest { behind self.new ≡ behind self.old }
-        ensures lent { (self.new.rows.rows.ghost_name ≡ self.old.rows.rows.ghost_name) × (self.new.slots.slots.ghost_name ≡ self.old.slots.slots.ghost_name) }
+        ensures memory { SameMemory self.old self.new }
     {
         let mut low = 1;
         for (i, bytes) in rows.iter().enumerate() {
@@ -81,17 +78,14 @@ impl<'m, L: Filed> Board<'m, L> {
         requires { (holding self.old).book.rows ≡ [] }
         ensures answer { for_fault result ≡ done_result (load_answer L.Units.kind L.Filed.filing (holding self.old) bytes.now) }
         ensures board { holding self.new ≡ load_after L.Units.kind L.Filed.filing (holding self.old) bytes.now }
-        ensures rest { behind self.new ≡ behind self.old }
-        ensures lent { (self.new.rows.rows.ghost_name ≡ self.old.rows.rows.ghost_name) × (self.new.slots.slots.ghost_name ≡ self.old.slots.slots.ghost_name) }
+        ensures memory { SameMemory self.old self.new }
     {
-        let (header, rows) = open_file::<L>(bytes, self.rows.room)?;
-        self.witness.told();
+        let (header, rows) = open_file::<L>(bytes, self.room())?;
         let capacity = self.capacity;
         let horizon = self.horizon;
         let next = self.next;
         self.reset(header.capacity, header.horizon, header.next);
         let read = self.admit_all(header, rows);
-        self.witness.told();
         if read.is_err() {
             self.reset(capacity, horizon, next);
         }
@@ -102,8 +96,7 @@ impl<'m, L: Filed> Board<'m, L> {
     pub fn load(&mut self, bytes: &[u8]) -> Result<(), Refusal>
         ensures answer { result ≡ done_result (load_answer L.Units.kind L.Filed.filing (holding self.old) bytes.now) }
         ensures board { holding self.new ≡ load_after L.Units.kind L.Filed.filing (holding self.old) bytes.now }
-        ensures rest { behind self.new ≡ behind self.old }
-        ensures lent { (self.new.rows.rows.ghost_name ≡ self.old.rows.rows.ghost_name) × (self.new.slots.slots.ghost_name ≡ self.old.slots.slots.ghost_name) }
+        ensures memory { SameMemory self.old self.new }
     {
         if self.stands() {
             return Err(Refusal::BookingStands);

@@ -6,15 +6,16 @@ ghost use Rattle.bookings.specs.declared.row.Row.{Row};
 ghost use Rattle.board.specs.Calls.{move, answer, after, no_row, wrong_state, with_state, without_row, fate_after};
 ghost use Rattle.board.specs.Places.{Placed};
 ghost use Rattle.board.specs.Results.{done_result, handed, token_result, done_by};
-ghost use Rattle.board.specs.Views.{holding, behind};
+ghost use Rattle.board.specs.Views.{holding, SameMemory};
 
 use crate::board::Board;
 use crate::changes::Lift;
-use crate::setup::{blank_row, witness_of};
+use crate::rows::place_of;
 use crate::token::HoldToken;
 use bookings::event::Event;
 use bookings::refusal::Refusal;
 use bookings::row::{Row, State};
+use slots::span::Span;
 use units::kind::Units;
 
 // The refusal where there is no row of that number.
@@ -56,95 +57,63 @@ impl<'m, L: Units> Board<'m, L> {
     fn set_state(&mut self, number: u32, place: usize, state: State)
         requires { (Placed number (holding self.old).book.rows (Some place)) × ((state ≢ State.Blank)) }
         ensures board { (r : Row L) → numbered number (holding self.old).book.rows ≡ Some r → holding self.new ≡ with_state (holding self.old) number r state }
-        ensures rest { behind self.new ≡ behind self.old }
-        ensures lent { (self.new.rows.rows.ghost_name ≡ self.old.rows.rows.ghost_name) × (self.new.slots.slots.ghost_name ≡ self.old.slots.slots.ghost_name) }
+        ensures memory { SameMemory self.old self.new }
     {
-        self.witness.told();
-        let row = self.rows.get(place);
-        self.rows.replace(
-            place,
-            Row {
-                number: row.number,
-                booking: row.booking,
-                state,
-            },
-        );
-        self.witness = witness_of(
-            self.capacity,
-            self.horizon,
-            self.next,
-            &self.rows,
-            &self.slots,
-        );
+        let row = self.rows.items()[place];
+        self.rows.replace(place, Row { state, ..row });
     }
 
     // Takes the booking at `place` out, and lifts its claim from the slots of its span.
     fn remove(&mut self, number: u32, place: usize)
         requires { Placed number (holding self.old).book.rows (Some place) }
         ensures board { (r : Row L) → numbered number (holding self.old).book.rows ≡ Some r → holding self.new ≡ without_row L.kind (holding self.old) number r }
-        ensures rest { behind self.new ≡ behind self.old }
-        ensures lent { (self.new.rows.rows.ghost_name ≡ self.old.rows.rows.ghost_name) × (self.new.slots.slots.ghost_name ≡ self.old.slots.slots.ghost_name) }
+        ensures memory { SameMemory self.old self.new }
     {
-        self.witness.told();
-        let row = self.rows.get(place);
+        let row = self.rows.items()[place];
         let lift = Lift {
             claim: row.booking.claim,
         };
-        let blank = blank_row(self.slots.floor);
-        self.rows.take_out(place, blank);
-        let _ = self.slots.change(row.booking.start, row.booking.end, &lift);
-        self.witness = witness_of(
-            self.capacity,
-            self.horizon,
-            self.next,
-            &self.rows,
-            &self.slots,
-        );
+        let _ = self.rows.remove(place);
+        let span = Span {
+            from: row.booking.start,
+            until: row.booking.end,
+        };
+        let _ = self.slots.change(span, &lift);
     }
 
-    // The row's state and the event together decide: the row changes, or is removed, or neither may be.
-    fn act(&mut self, number: u32, place: usize, event: Event) -> bool
+    // The row's state and the event together decide: the row changes, or is removed, or the state bars the event.
+    fn act(&mut self, number: u32, place: usize, event: Event) -> Result<(), Refusal>
         requires { Placed number (holding self.old).book.rows (Some place) }
-        ensures answer { (r : Row L) → numbered number (holding self.old).book.rows ≡ Some r → result ≡ done_by (fate event r.state) }
+        ensures answer { (r : Row L) → numbered number (holding self.old).book.rows ≡ Some r → result ≡ done_by event (fate event r.state) }
         ensures board { (r : Row L) → numbered number (holding self.old).book.rows ≡ Some r → holding self.new ≡ fate_after L.kind (holding self.old) number r (fate event r.state) }
-        ensures rest { behind self.new ≡ behind self.old }
-        ensures lent { (self.new.rows.rows.ghost_name ≡ self.old.rows.rows.ghost_name) × (self.new.slots.slots.ghost_name ≡ self.old.slots.slots.ghost_name) }
+        ensures memory { SameMemory self.old self.new }
     {
-        match (self.rows.get(place).state, event) {
+        match (self.rows.items()[place].state, event) {
             (State::Held, Event::Confirm) => {
                 self.set_state(number, place, State::Confirmed);
-                true
             }
             (State::Confirmed, Event::Begin) => {
                 self.set_state(number, place, State::UnderWay);
-                true
             }
             (State::Held, Event::Release)
             | (State::Confirmed, Event::Cancel)
             | (State::UnderWay, Event::Finish) => {
                 self.remove(number, place);
-                true
             }
-            _ => false,
+            _ => return Err(wrong_state(event)),
         }
+        Ok(())
     }
 
     // The event for the booking of that number.
     fn moved(&mut self, number: u32, event: Event) -> Result<(), Refusal>
         ensures answer { result ≡ done_result (answer L.kind (holding self.old) (move event number)) }
         ensures board { holding self.new ≡ after L.kind (holding self.old) (move event number) }
-        ensures rest { behind self.new ≡ behind self.old }
-        ensures lent { (self.new.rows.rows.ghost_name ≡ self.old.rows.rows.ghost_name) × (self.new.slots.slots.ghost_name ≡ self.old.slots.slots.ghost_name) }
+        ensures memory { SameMemory self.old self.new }
     {
-        match self.rows.find(number) {
+        match place_of(self.rows.items(), number) {
+            Some(place) => self.act(number, place, event),
             None => Err(no_row(event)),
-            Some(place) => {
-                if self.act(number, place, event) {
-                    Ok(())
-                } else {
-                    Err(wrong_state(event))
-                }
-            }
         }
     }
 
@@ -152,8 +121,7 @@ impl<'m, L: Units> Board<'m, L> {
     pub fn confirm(&mut self, token: HoldToken) -> Result<(), HoldToken>
         ensures answer { result ≡ token_result token (answer L.kind (holding self.old) (move Event.Confirm token.number)) }
         ensures board { holding self.new ≡ after L.kind (holding self.old) (move Event.Confirm token.number) }
-        ensures rest { behind self.new ≡ behind self.old }
-        ensures lent { (self.new.rows.rows.ghost_name ≡ self.old.rows.rows.ghost_name) × (self.new.slots.slots.ghost_name ≡ self.old.slots.slots.ghost_name) }
+        ensures memory { SameMemory self.old self.new }
     {
         let moved = self.moved(token.number, Event::Confirm);
         spend(token, moved)
@@ -163,8 +131,7 @@ impl<'m, L: Units> Board<'m, L> {
     pub fn release(&mut self, token: HoldToken) -> Result<(), HoldToken>
         ensures answer { result ≡ token_result token (answer L.kind (holding self.old) (move Event.Release token.number)) }
         ensures board { holding self.new ≡ after L.kind (holding self.old) (move Event.Release token.number) }
-        ensures rest { behind self.new ≡ behind self.old }
-        ensures lent { (self.new.rows.rows.ghost_name ≡ self.old.rows.rows.ghost_name) × (self.new.slots.slots.ghost_name ≡ self.old.slots.slots.ghost_name) }
+        ensures memory { SameMemory self.old self.new }
     {
         let moved = self.moved(token.number, Event::Release);
         spend(token, moved)
@@ -174,8 +141,7 @@ impl<'m, L: Units> Board<'m, L> {
     pub fn cancel(&mut self, number: u32) -> Result<(), Refusal>
         ensures answer { result ≡ done_result (answer L.kind (holding self.old) (move Event.Cancel number)) }
         ensures board { holding self.new ≡ after L.kind (holding self.old) (move Event.Cancel number) }
-        ensures rest { behind self.new ≡ behind self.old }
-        ensures lent { (self.new.rows.rows.ghost_name ≡ self.old.rows.rows.ghost_name) × (self.new.slots.slots.ghost_name ≡ self.old.slots.slots.ghost_name) }
+        ensures memory { SameMemory self.old self.new }
     {
         self.moved(number, Event::Cancel)
     }
@@ -184,8 +150,7 @@ impl<'m, L: Units> Board<'m, L> {
     pub fn begin(&mut self, number: u32) -> Result<(), Refusal>
         ensures answer { result ≡ done_result (answer L.kind (holding self.old) (move Event.Begin number)) }
         ensures board { holding self.new ≡ after L.kind (holding self.old) (move Event.Begin number) }
-        ensures rest { behind self.new ≡ behind self.old }
-        ensures lent { (self.new.rows.rows.ghost_name ≡ self.old.rows.rows.ghost_name) × (self.new.slots.slots.ghost_name ≡ self.old.slots.slots.ghost_name) }
+        ensures memory { SameMemory self.old self.new }
     {
         self.moved(number, Event::Begin)
     }
@@ -194,8 +159,7 @@ impl<'m, L: Units> Board<'m, L> {
     pub fn finish(&mut self, number: u32) -> Result<(), Refusal>
         ensures answer { result ≡ done_result (answer L.kind (holding self.old) (move Event.Finish number)) }
         ensures board { holding self.new ≡ after L.kind (holding self.old) (move Event.Finish number) }
-        ensures rest { behind self.new ≡ behind self.old }
-        ensures lent { (self.new.rows.rows.ghost_name ≡ self.old.rows.rows.ghost_name) × (self.new.slots.slots.ghost_name ≡ self.old.slots.slots.ghost_name) }
+        ensures memory { SameMemory self.old self.new }
     {
         self.moved(number, Event::Finish)
     }

@@ -16,9 +16,7 @@ impl<'m, L: Units> Board<'m, L> {
     // What a board always keeps.
     pub fn keeps(&self)
         ensures { Kept L.kind L.kind.nothing (holding self.now) }
-    {
-        self.witness.told();
-    }
+    {}
 
     // How many units there are: 0 where the board is closed.
     pub fn capacity(&self) -> u32
@@ -45,14 +43,14 @@ impl<'m, L: Units> Board<'m, L> {
     pub fn room(&self) -> usize
         ensures { result ≡ (holding self.now).book.room }
     {
-        self.rows.room
+        self.rows.room()
     }
 
     // The standing bookings, in the order of their numbers.
     pub fn rows(&self) -> &[Row<L>]
         ensures { result.now ≡ (holding self.now).book.rows }
     {
-        &self.rows.rows[0..self.rows.count]
+        self.rows.items()
     }
 
     // The slot list.
@@ -65,10 +63,7 @@ impl<'m, L: Units> Board<'m, L> {
     // The slot list says at `minute` what the standing bookings make.
     fn agrees_at(&self, minute: u32)
         ensures { at self.now.slots.floor (holding self.now).slots minute ≡ load_at L.kind self.now.capacity (bookings (holding self.now).book.rows) minute }
-    {
-        let witness = &self.witness;
-        witness.told();
-    }
+    {}
 
     // The load at `minute`: what the standing bookings make.
     pub fn load_at(&self, minute: u32) -> L
@@ -80,18 +75,15 @@ impl<'m, L: Units> Board<'m, L> {
 
     // The lent memory is the rows and the slot list, with blanks behind them.
     fn lies_in_order(&self)
-        ensures rows { self.now.rows.rows.now ≡ laid (blank_row L.kind.nothing) self.now.rows.room (holding self.now).book.rows self.now.rows.rows.now }
-        ensures slots { self.now.slots.slots.now ≡ laid (slot_of 0 L.kind.nothing) self.now.slots.room (holding self.now).slots self.now.slots.slots.now }
-    {
-        let witness = &self.witness;
-        witness.told();
-    }
+        ensures rows { self.now.rows.memory.now ≡ laid (blank_row L.kind.nothing) self.now.rows.room (holding self.now).book.rows self.now.rows.memory.now }
+        ensures slots { self.now.slots.lent.memory.now ≡ laid (slot_of 0 L.kind.nothing) self.now.slots.lent.room (holding self.now).slots self.now.slots.lent.memory.now }
+    {}
 
     // Hands the memory back: the rows and the slot list, blanks behind them, and what was not the board's as it was.
     pub fn close(self) -> (&'m mut [Row<L>], &'m mut [Slot<L>])
-        ensures rows { result.0.now ≡ laid (blank_row L.kind.nothing) self.entry.rows.room (holding self.entry).book.rows self.entry.rows.rows.now }
-        ensures slots { result.1.now ≡ laid (slot_of 0 L.kind.nothing) self.entry.slots.room (holding self.entry).slots self.entry.slots.slots.now }
-        ensures lent { (result.0.ghost_name ≡ self.entry.rows.rows.ghost_name) × (result.1.ghost_name ≡ self.entry.slots.slots.ghost_name) }
+        ensures rows { result.0.now ≡ laid (blank_row L.kind.nothing) self.entry.rows.room (holding self.entry).book.rows self.entry.rows.memory.now }
+        ensures slots { result.1.now ≡ laid (slot_of 0 L.kind.nothing) self.entry.slots.lent.room (holding self.entry).slots self.entry.slots.lent.memory.now }
+        ensures lent { (result.0.ghost_name ≡ self.entry.rows.memory.ghost_name) × (result.1.ghost_name ≡ self.entry.slots.lent.memory.ghost_name) }
     {
         self.lies_in_order();
         let Board {
@@ -100,11 +92,8 @@ impl<'m, L: Units> Board<'m, L> {
             next: _,
             rows,
             slots,
-            witness,
-            of_rows: _,
-            of_slots: _,
+            of_bookings: _,
         } = self;
-        drop(witness);
         (rows.close(), slots.close())
     }
 }

@@ -3,6 +3,7 @@ ghost use Rattle.std.specs.Prelude.{◌≡◌, ◌≤◌, length};
 ghost use Rattle.boardfile.specs.Files.{file_length, header_of};
 ghost use Rattle.board.specs.Files.{is_held, some_held, save_check, save_result, save_leaves};
 ghost use Rattle.board.specs.FileSteps.{rows_over, file_over};
+ghost use Rattle.board.specs.Results.{allowed};
 ghost use Rattle.board.specs.Views.{holding};
 
 use crate::board::Board;
@@ -60,21 +61,20 @@ impl<'m, L: Units> Board<'m, L> {
     pub fn file_length(&self) -> usize
         ensures { result ≡ file_length (length (holding self.now).book.rows) }
     {
-        self.witness.told();
-        24 + 24 * self.rows.count
+        24 + 24 * self.rows.items().len()
     }
 
     // What stands against saving the board into so many bytes.
-    pub fn save_check(&self, memory: usize) -> Option<Refusal>
-        ensures { result ≡ save_check (holding self.now).book memory }
+    pub fn save_check(&self, memory: usize) -> Result<(), Refusal>
+        ensures { result ≡ allowed (save_check (holding self.now).book memory) }
     {
         if self.capacity == 0 || some_held(self.rows()) {
-            return Some(Refusal::NotSettled);
+            return Err(Refusal::NotSettled);
         }
         if memory < self.file_length() {
-            return Some(Refusal::Buffer);
+            return Err(Refusal::Buffer);
         }
-        None
+        Ok(())
     }
 }
 
@@ -83,13 +83,12 @@ impl<'m, L: Filed> Board<'m, L> {
     fn header(&self) -> Header
         ensures { result ≡ header_of L.Filed.filing (holding self.now).book }
     {
-        self.witness.told();
         Header {
             kind: L::code(),
             capacity: self.capacity,
             horizon: self.horizon,
             next: self.next,
-            count: self.rows.count as u32,
+            count: self.rows.items().len() as u32,
             offset: 24,
         }
     }
@@ -99,9 +98,7 @@ impl<'m, L: Filed> Board<'m, L> {
         ensures answer { result ≡ save_result (holding self.now).book (length out.old) }
         ensures memory { out.new ≡ save_leaves L.Filed.filing (holding self.now).book out.old }
     {
-        if let Some(refusal) = self.save_check(out.len()) {
-            return Err(refusal);
-        }
+        self.save_check(out.len())?;
         write_file(self.header(), self.rows(), out);
         Ok(self.file_length())
     }

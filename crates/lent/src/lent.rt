@@ -61,6 +61,13 @@ impl<'m, T: Copy> Lent<'m, T> {
         &self.memory[..self.used]
     }
 
+    // How many items there can be.
+    pub fn room(&self) -> usize
+        ensures { result ≡ self.now.room }
+    {
+        self.room
+    }
+
     // How many items more find room.
     pub fn spare(&self) -> usize
         ensures { result ≡ self.now.room - length (items self.now) }

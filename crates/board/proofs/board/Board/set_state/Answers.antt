@@ -1,48 +1,27 @@
-use Rattle.std.proofs.Common.{sym, refl, ap, ◌∙◌}
+use Rattle.std.proofs.Common.{◌≡◌, List, get_or, set, sym, ap, subst, ◌∙◌}
+use Rattle.lent.specs.Lists.{Refilled}
 use Rattle.bookings.proofs.Found.{some_is}
+use Rattle.bookings.specs.declared.row.Row.{Row}
 use Rattle.board.specs.Calls.{with_state}
 use Rattle.board.specs.Views.{holding}
-use Rattle.board.proofs.Outcomes.{in_use}
-use Rattle.board.proofs.Restated.{read_is, restated}
-use Rattle.board.proofs.Told.{same_behind}
+use Rattle.board.proofs.Booked.{numbered_is, restated}
 use Rattle.board.proofs.board.Board.set_state.Goals as goal
-
-pub witness_of-requires : goal.witness_of-requires
-witness_of-requires g c =
-    let did = c.replace.ensures in
-    let now = restated g.L.Units.kind c.args.self.now c.args.number c.args.place c.requires.0 c.get-row.result c.get-row.ensures c.args.state c.replace.new.self did.rows did.count did.room g.met.L.Units.keeps c.told.ensures c.requires.1 in
-    (in_use _ _ _ _ now.rows_laid, (in_use _ _ _ _ now.slots_laid, now.kept))
 
 pub invariant_of-self : goal.invariant_of-self
 invariant_of-self g c =
-    let did = c.replace.ensures in
-    let now = restated g.L.Units.kind c.args.self.now c.args.number c.args.place c.requires.0 c.get-row.result c.get-row.ensures c.args.state c.replace.new.self did.rows did.count did.room g.met.L.Units.keeps c.told.ensures c.requires.1 in
-    let told = c.witness_of.ensures in
-    record {
-      rows_used = now.rows_laid.used_fits;
-      rows_fit = now.rows_laid.room_fits;
-      rows_blank = now.rows_laid.blank_behind;
-      slots_room = now.rooms;
-      slots_used = now.slots_laid.used_fits;
-      slots_fit = now.slots_laid.room_fits;
-      slots_blank = now.slots_laid.blank_behind;
-      capacity_same = told.0;
-      horizon_same = told.1;
-      next_same = told.2;
-      room_same = told.3;
-      floor_same = told.4;
-      rows_same = told.5;
-      slots_same = told.6;
-    }
+    let was = c.args.self.now in
+    let row = c.index-items-place.result in
+    let read = c.index-items-place.is ∙ ap (λ (rows : List (Row g.row.L.Denot)). get_or rows c.args.place row) c.items.ensures in
+    let now = restated g.met.L.Units.keeps was c.args.number c.args.place c.requires.0 row read c.args.state c.requires.1 c.replace.new.self c.replace.ensures in
+    record { rows_blank = now.rows_blank; slots_room = now.slots_room; keeping = now.keeping }
 
 pub returns : goal.returns
 returns g c =
     let was = c.args.self.now in
-    let did = c.replace.ensures in
-    let row = c.get-row.result in
-    let now = restated g.L.Units.kind was c.args.number c.args.place c.requires.0 row c.get-row.ensures c.args.state c.replace.new.self did.rows did.count did.room g.met.L.Units.keeps c.told.ensures c.requires.1 in
+    let row = c.index-items-place.result in
+    let read = c.index-items-place.is ∙ ap (λ (rows : List (Row g.row.L.Denot)). get_or rows c.args.place row) c.items.ensures in
+    let now = restated g.met.L.Units.keeps was c.args.number c.args.place c.requires.0 row read c.args.state c.requires.1 c.replace.new.self c.replace.ensures in
     record {
-      board = λ r e. now.holding_is ∙ ap (λ x. with_state (holding was) c.args.number x c.args.state) (some_is row r (sym (read_is c.args.number c.args.place (holding was).book.rows row c.requires.0 c.get-row.ensures) ∙ e));
-      rest = same_behind _ _ _ _ now.rows_behind now.slots_behind;
-      lent = (did.lent, refl);
+      board = λ r e. now.holding_is ∙ ap (λ x. with_state (holding was) c.args.number x c.args.state) (some_is row r (sym (numbered_is g.met.L.Units.keeps was c.args.number c.args.place c.requires.0 row read) ∙ e));
+      memory = record { behind_is = now.behind_is; rows_lent = now.rows_lent; slots_lent = now.slots_lent };
     }
