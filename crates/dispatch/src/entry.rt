@@ -1,5 +1,5 @@
 // One line of a sheet on the board.
-ghost use Rattle.std.specs.Prelude.{◌≡◌, true, is_ok, Ok};
+ghost use Rattle.std.specs.Prelude.{◌≡◌, Ok};
 ghost use Rattle.units.specs.Crews.{crew_kind};
 ghost use Rattle.board.specs.Calls.{given, move, hold, answer, after};
 ghost use Rattle.board.specs.Results.{Takes};
@@ -7,11 +7,10 @@ ghost use Rattle.board.specs.Views.{holding};
 ghost use Rattle.planning.specs.Rules.{earliest_start};
 ghost use Rattle.sheet.specs.Items.{content_of};
 ghost use Rattle.dispatch.specs.Running.{settling, hold_reply, hold_leaves, move_reply, answered, after_line, ordered, after_order};
-ghost use Rattle.dispatch.specs.Grants.{booking_in, done_of};
+ghost use Rattle.dispatch.specs.Grants.{booking_in, told};
 
 use board::board::Board;
 use board::grant::Grant;
-use board::token::HoldToken;
 use bookings::refusal::Refusal;
 use planning::policy::EarliestStart;
 use planning::request::Request;
@@ -19,16 +18,6 @@ use sheet::answer::Answer;
 use sheet::item::Item;
 use sheet::order::Order;
 use units::crew::Crew;
-
-// The token was taken, as the board takes the token of what it has granted.
-fn spent(res: Result<(), HoldToken>)
-    requires { is_ok res ≡ true }
-{
-    match res {
-        Ok(()) => {}
-        Err(_) => unreachable(),
-    }
-}
 
 // Confirms a booking that starts by the welcome minute, and releases any other.
 fn settle(board: &mut Board<'_, Crew>, grant: Grant<Crew>, welcome: u32) -> Answer
@@ -45,43 +34,31 @@ fn settle(board: &mut Board<'_, Crew>, grant: Grant<Crew>, welcome: u32) -> Answ
         token,
     } = grant;
     if start <= welcome {
-        spent(board.confirm(token));
+        board.confirm(token).unwrap();
         Answer::Granted {
             number,
             start,
             claim: claim.mask,
         }
     } else {
-        spent(board.release(token));
+        board.release(token).unwrap();
         Answer::Late { number, start }
     }
 }
 
 // Holds by the earliest start, and settles what is granted.
-fn held(board: &mut Board<'_, Crew>, request: Request, welcome: u32) -> Answer
-    ensures answer { result ≡ hold_reply welcome (answer crew_kind (holding board.old) (hold request earliest_start)) }
+fn held(board: &mut Board<'_, Crew>, request: Request, welcome: u32) -> Result<Answer, Refusal>
+    ensures answer { told result ≡ hold_reply welcome (answer crew_kind (holding board.old) (hold request earliest_start)) }
     ensures board { holding board.new ≡ hold_leaves welcome (after crew_kind (holding board.old) (hold request earliest_start)) (answer crew_kind (holding board.old) (hold request earliest_start)) }
     ensures lent { (board.new.rows.rows.ghost_name ≡ board.old.rows.rows.ghost_name) × (board.new.slots.slots.ghost_name ≡ board.old.slots.slots.ghost_name) }
 {
-    match board.hold(request, &EarliestStart) {
-        Ok(grant) => settle(board, grant, welcome),
-        Err(refusal) => Answer::Refused(refusal.number()),
-    }
-}
-
-// The answer to a move.
-fn done(res: Result<(), Refusal>) -> Answer
-    ensures { result ≡ done_of res }
-{
-    match res {
-        Ok(()) => Answer::Done,
-        Err(refusal) => Answer::Refused(refusal.number()),
-    }
+    let grant = board.hold(request, &EarliestStart)?;
+    Ok(settle(board, grant, welcome))
 }
 
 // Does what the order says.
-fn obey(board: &mut Board<'_, Crew>, order: Order) -> Answer
-    ensures answer { result ≡ ordered (holding board.old) order }
+fn obey(board: &mut Board<'_, Crew>, order: Order) -> Result<Answer, Refusal>
+    ensures answer { told result ≡ ordered (holding board.old) order }
     ensures board { holding board.new ≡ after_order (holding board.old) order }
     ensures lent { (board.new.rows.rows.ghost_name ≡ board.old.rows.rows.ghost_name) × (board.new.slots.slots.ghost_name ≡ board.old.slots.slots.ghost_name) }
 {
@@ -93,21 +70,18 @@ fn obey(board: &mut Board<'_, Crew>, order: Order) -> Answer
             wanted,
             welcome,
         } => {
-            held(
-                board,
-                Request {
-                    ready,
-                    duration,
-                    deadline,
-                    wanted,
-                },
-                welcome,
-            )
+            let request = Request {
+                ready,
+                duration,
+                deadline,
+                wanted,
+            };
+            held(board, request, welcome)
         }
-        Order::Cancel(number) => done(board.cancel(number)),
-        Order::Begin(number) => done(board.begin(number)),
-        Order::Finish(number) => done(board.finish(number)),
-        Order::List => Answer::Listed,
+        Order::Cancel(number) => board.cancel(number).map(|()| Answer::Done),
+        Order::Begin(number) => board.begin(number).map(|()| Answer::Done),
+        Order::Finish(number) => board.finish(number).map(|()| Answer::Done),
+        Order::List => Ok(Answer::Listed),
     }
 }
 
@@ -118,8 +92,8 @@ pub fn run_line(board: &mut Board<'_, Crew>, item: Item<'_>) -> Answer
     ensures lent { (board.new.rows.rows.ghost_name ≡ board.old.rows.rows.ghost_name) × (board.new.slots.slots.ghost_name ≡ board.old.slots.slots.ghost_name) }
 {
     match item {
-        Item::Entry(_, order) => obey(board, order),
+        Item::Entry(_, order) => obey(board, order).unwrap_or_else(Answer::Refused),
         Item::Remark(_) => Answer::Silent,
-        Item::Bad(_) => Answer::Refused(Refusal::BadLine.number()),
+        Item::Bad(_) => Answer::Refused(Refusal::BadLine),
     }
 }

@@ -8,10 +8,9 @@ ghost use Rattle.dispatch.specs.Running.{texts, sheet_text};
 
 use crate::entry::run_line;
 use board::board::Board;
-use bookings::booking::Booking;
+use board::setup::blank_row;
 use bookings::refusal::Refusal;
-use bookings::row::{Row, State};
-use sheet::answer::Answer;
+use sheet::answer::{Answer, Printed};
 use sheet::reader::SheetReader;
 use slots::slot::Slot;
 use std::alloc::{AllocError, Global};
@@ -50,19 +49,14 @@ pub fn run(heap: Global, sheet: &[u8]) -> Result<String, AllocError>
 {
     calls_are_a_line(sheet);
     if MOST_BYTES < sheet.len() {
-        let refused = Answer::Refused(Refusal::SheetTooLong.number());
-        return refused.text(heap, &[]);
+        let refused = Printed {
+            answer: Answer::Refused(Refusal::SheetTooLong),
+            slots: &[],
+        };
+        return refused.to_string(heap);
     }
     let nobody = Crew { mask: 0 };
-    let mut rows = [Row {
-        number: 0,
-        booking: Booking {
-            start: 0,
-            end: 0,
-            claim: nobody,
-        },
-        state: State::Blank,
-    }; ROWS];
+    let mut rows = [blank_row(nobody); ROWS];
     let mut slots = [Slot {
         minute: 0,
         value: nobody,

@@ -1,5 +1,5 @@
 -- The first field of a line, and the fields behind it. Assumes nothing.
-use Rattle.std.proofs.Common.{◌≡◌, ℕ, suc, ◌-◌, ◌<◌, Bool, true, false, cond, eqb, List, [], ◌∷◌, length, get_or, take, drop, Some, None, Option, sym, refl, ap, ◌∙◌, arith}
+use Rattle.std.proofs.Common.{◌≡◌, ℕ, suc, ◌<◌, Bool, true, false, cond, eqb, List, [], ◌∷◌, length, get_or, take, drop, Some, None, Option, sym, refl, ap, ◌∙◌, arith}
 use Rattle.sheet.specs.Lines.{onto, length_before}
 use Rattle.sheet.specs.Fields.{number_of, fields, with_first, all_numbers, numbers_of}
 
@@ -32,11 +32,9 @@ pub numbers_first : (bs : List ℕ) → numbers_of (32 ∷ bs) ≡ with_first (n
 numbers_first bs = ap all_numbers (fields_first bs) ∙ ap (with_first (number_of (take (end bs) bs))) (later_numbers bs)
 
 -- the same of bytes that begin with a space, in the words of the code that cuts them
-pub numbers_cut : (bs rest behind : List ℕ) (e : ℕ) (o : Option ℕ) → 0 < length bs → get_or bs 0 0 ≡ 32 → rest ≡ drop 1 bs → e ≡ end rest → o ≡ number_of (take (e - 0) rest) → behind ≡ drop e rest → numbers_of bs ≡ with_first o (numbers_of behind)
-numbers_cut [] rest behind e o h b r l f d = absurd (omega arith)
-numbers_cut (x ∷ bs) rest behind e o h b r l f d =
-    let z : e - 0 ≡ e = omega arith in
-    ap (λ y. numbers_of (y ∷ bs)) b ∙ numbers_first bs ∙ cc
+pub numbers_cut : (bs rest first behind : List ℕ) (e : ℕ) (o : Option ℕ) → 0 < length bs → get_or bs 0 0 ≡ 32 → rest ≡ drop 1 bs → e ≡ end rest → first ≡ take e rest → behind ≡ drop e rest → o ≡ number_of first → numbers_of bs ≡ with_first o (numbers_of behind)
+numbers_cut [] rest first behind e o h b r l f d n = absurd (omega arith)
+numbers_cut (x ∷ bs) rest first behind e o h b r l f d n = ap (λ y. numbers_of (y ∷ bs)) b ∙ numbers_first bs ∙ cc
 
 with_first_some : (o : Option ℕ) (ns : Option (List ℕ)) → with_first o ns ≡ Some [] → ⊥
 with_first_some None ns e = let z : ◌≡◌ {A = ℕ} 0 1 = cc in omega arith

@@ -1,12 +1,13 @@
-// The orders of a sheet, and how each is read from the fields behind its letter.
-ghost use Rattle.std.specs.Prelude.{◌≡◌};
-ghost use Rattle.sheet.specs.Fields.{numbers_of};
-ghost use Rattle.sheet.specs.Orders.{hold_of, cancel_of, begin_of, finish_of, list_of};
+// The orders of a sheet, and how each is read from its letter and the fields behind it.
+ghost use Rattle.std.specs.Prelude.{◌≡◌, slice_index};
+ghost use Rattle.std.specs.Option.{option_map};
+ghost use Rattle.sheet.specs.Fields.{numbers_of, exactly};
+ghost use Rattle.sheet.specs.Orders.{order_of};
 
 use crate::field::numbers;
 
 // What the writer of a sheet may ask for on a line.
-#[derive(Clone, Copy)]
+#[derive(Clone, Copy, Debug, PartialEq, Eq)]
 pub enum Order {
     // Hold `wanted` units for `duration` minutes between `ready` and `deadline`; confirm where they start by `welcome`, else release.
     Hold {
@@ -22,43 +23,38 @@ pub enum Order {
     List,
 }
 
-pub(crate) fn hold(fields: &[u8]) -> Option<Order>
-    ensures { result ≡ hold_of (numbers_of fields.now) }
-{
-    let [ready, duration, deadline, wanted, welcome] = numbers::<5>(fields)?;
-    Some(Order::Hold {
-        ready,
-        duration,
-        deadline,
-        wanted,
-        welcome,
-    })
-}
-
-pub(crate) fn cancel(fields: &[u8]) -> Option<Order>
-    ensures { result ≡ cancel_of (numbers_of fields.now) }
+// The number of a line's only field.
+fn one(fields: &[u8]) -> Option<u32>
+    ensures { result ≡ option_map (λ ns. slice_index ns 0) (exactly 1 (numbers_of fields.now)) }
 {
     let [number] = numbers::<1>(fields)?;
-    Some(Order::Cancel(number))
+    Some(number)
 }
 
-pub(crate) fn begin(fields: &[u8]) -> Option<Order>
-    ensures { result ≡ begin_of (numbers_of fields.now) }
-{
-    let [number] = numbers::<1>(fields)?;
-    Some(Order::Begin(number))
-}
-
-pub(crate) fn finish(fields: &[u8]) -> Option<Order>
-    ensures { result ≡ finish_of (numbers_of fields.now) }
-{
-    let [number] = numbers::<1>(fields)?;
-    Some(Order::Finish(number))
-}
-
-pub(crate) fn list(fields: &[u8]) -> Option<Order>
-    ensures { result ≡ list_of (numbers_of fields.now) }
-{
-    let [] = numbers::<0>(fields)?;
-    Some(Order::List)
+impl Order {
+    // The order that a letter makes of its numbers, where there are as many as it takes.
+    pub(crate) fn read(letter: u8, fields: &[u8]) -> Option<Order>
+        ensures { result ≡ order_of letter (numbers_of fields.now) }
+    {
+        match letter {
+            b'P' => {
+                let [ready, duration, deadline, wanted, welcome] = numbers::<5>(fields)?;
+                Some(Order::Hold {
+                    ready,
+                    duration,
+                    deadline,
+                    wanted,
+                    welcome,
+                })
+            }
+            b'C' => one(fields).map(Order::Cancel),
+            b'B' => one(fields).map(Order::Begin),
+            b'F' => one(fields).map(Order::Finish),
+            b'L' => {
+                let [] = numbers::<0>(fields)?;
+                Some(Order::List)
+            }
+            _ => None,
+        }
+    }
 }

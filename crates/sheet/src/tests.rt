@@ -1,12 +1,22 @@
 // Sheets by example.
 use crate::answer::Answer;
 use crate::item::Item;
+use crate::line::Line;
 use crate::order::Order;
 use crate::reader::{SheetReader, items};
+use bookings::refusal::Refusal;
 use slots::slot::Slot;
 use std::process::Abort;
 use std::test::Fail;
 use units::crew::Crew;
+
+fn line(at: usize, bytes: &[u8]) -> Line<'_> {
+    Line { at, bytes }
+}
+
+fn entry(at: usize, bytes: &[u8], order: Order) -> Item<'_> {
+    Item::Entry(line(at, bytes), order)
+}
 
 // Every line of the sheet is bad, and there are so many.
 fn check_bad(rt: &(impl Abort + AllocGlobal), sheet: &[u8], count: usize) -> Result<(), Fail> {
@@ -30,31 +40,26 @@ fn lines_of_no_form(rt: HostRuntime) -> Result<(), Fail> {
 }
 
 #[test]
-fn orders_with_their_numbers(rt: HostRuntime) {
-    for item in SheetReader::new(b"P 0 60 60 2 0\nC 4294967295\nB 0\nF 10\nL\n#C 1\n\n") {
-        let as_written = match item {
-            Item::Entry(
-                line,
-                Order::Hold {
-                    ready,
-                    duration,
-                    deadline,
-                    wanted,
-                    welcome,
-                },
-            ) => {
-                let times = ready == 0 && duration == 60 && deadline == 60;
-                times && wanted == 2 && welcome == 0 && line.at == 0
-            }
-            Item::Entry(line, Order::Cancel(number)) => number == 4294967295 && line.at == 14,
-            Item::Entry(line, Order::Begin(number)) => number == 0 && line.at == 27,
-            Item::Entry(line, Order::Finish(number)) => number == 10 && line.at == 31,
-            Item::Entry(line, Order::List) => line.at == 36,
-            Item::Remark(line) => line.at == 38 || line.at == 43,
-            Item::Bad(_) => false,
-        };
-        assert!(rt; as_written);
-    }
+fn orders_with_their_numbers(rt: HostRuntime) -> Result<(), Fail> {
+    let sheet = b"P 0 60 60 2 0\nC 4294967295\nB 0\nF 10\nL\n#C 1\n\n";
+    let held = Order::Hold {
+        ready: 0,
+        duration: 60,
+        deadline: 60,
+        wanted: 2,
+        welcome: 0,
+    };
+    let read = [
+        entry(0, b"P 0 60 60 2 0", held),
+        entry(14, b"C 4294967295", Order::Cancel(4294967295)),
+        entry(27, b"B 0", Order::Begin(0)),
+        entry(31, b"F 10", Order::Finish(10)),
+        entry(36, b"L", Order::List),
+        Item::Remark(line(38, b"#C 1")),
+        Item::Remark(line(43, b"")),
+    ];
+    assert_eq!(rt; items(rt.alloc(), sheet)?.as_slice(), read.as_slice());
+    Ok(())
 }
 
 #[test]
@@ -67,17 +72,18 @@ fn lines_with_and_without_an_end(rt: HostRuntime) -> Result<(), Fail> {
 }
 
 #[test]
-fn each_item_holds_its_own_part(rt: HostRuntime) {
-    for item in SheetReader::new(b"L\n\xff\x00\n\nC 1") {
-        match item {
-            Item::Entry(line, Order::List) => assert!(rt;
-                line.at == 0 && line.bytes == b"L".as_slice()
-            ),
-            Item::Bad(line) => assert!(rt; line.at == 2 && line.bytes == b"\xff\x00".as_slice()),
-            Item::Remark(line) => assert!(rt; line.at == 5 && line.bytes.is_empty()),
-            Item::Entry(line, _) => assert!(rt; line.at == 6 && line.bytes == b"C 1".as_slice()),
-        }
-    }
+fn each_item_holds_its_own_part(rt: HostRuntime) -> Result<(), Fail> {
+    let read = [
+        entry(0, b"L", Order::List),
+        Item::Bad(line(2, b"\xff\x00")),
+        Item::Remark(line(5, b"")),
+        entry(6, b"C 1", Order::Cancel(1)),
+    ];
+    assert_eq!(rt;
+        items(rt.alloc(), b"L\n\xff\x00\n\nC 1")?.as_slice(),
+        read.as_slice()
+    );
+    Ok(())
 }
 
 #[test]
@@ -102,7 +108,7 @@ fn answers_as_text(rt: HostRuntime) -> Result<(), Fail> {
             number: 3,
             start: 120,
         },
-        Answer::Refused(9),
+        Answer::Refused(Refusal::NoGap),
         Answer::Done,
         Answer::Silent,
         Answer::Listed,
@@ -111,6 +117,9 @@ fn answers_as_text(rt: HostRuntime) -> Result<(), Fail> {
     for answer in answers {
         answer.write_to(&slots, &mut out)?;
     }
-    assert!(rt; out.as_str() == "ok 1 0 3\nlate 3 120\nno 9\nok\nlist 2\n60 127\n120 0\n");
+    assert_eq!(rt;
+        out.as_str(),
+        "ok 1 0 3\nlate 3 120\nno 9\nok\nlist 2\n60 127\n120 0\n"
+    );
     Ok(())
 }

@@ -22,14 +22,9 @@ fn cut<'a>(sheet: &'a [u8], at: usize) -> (Line<'a>, usize)
     let length = length_before(rest, b'\n');
     let line = Line {
         at,
-        bytes: &rest[0..length],
+        bytes: &rest[..length],
     };
-    let end = at + length;
-    if end < sheet.len() {
-        (line, end + 1)
-    } else {
-        (line, end)
-    }
+    (line, sheet.len().min(at + length + 1))
 }
 
 impl<'a> SheetReader<'a> {
@@ -69,7 +64,7 @@ impl<'a> Iterator for SheetReader<'a> {
 pub fn items<'a>(heap: Global, sheet: &'a [u8]) -> Result<Vec<Item<'a>>, AllocError>
     ensures { IfOk result (λ v. Whole sheet.now v.items) }
 {
-    // The theorem on the reader's runs, from which the contract follows; it does nothing.
-    let _ = no_line_is_lost();
+    // The theorem on the reader's runs, from which the contract follows.
+    no_line_is_lost();
     SheetReader::new(sheet).collect(heap)
 }
