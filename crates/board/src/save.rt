@@ -8,7 +8,7 @@ ghost use Rattle.board.specs.Views.{holding};
 use crate::board::Board;
 use boardfile::filed::Filed;
 use boardfile::header::Header;
-use boardfile::write::{header_bytes, row_bytes};
+use boardfile::write::row_bytes;
 use bookings::refusal::Refusal;
 use bookings::row::{Row, State};
 use units::kind::Units;
@@ -51,7 +51,7 @@ fn write_file<L: Filed>(header: Header, rows: &[Row<L>], out: &mut [u8])
     requires { file_length (length rows.now) ≤ length out.old }
     ensures { out.new ≡ file_over L.Filed.filing header rows.now out.old }
 {
-    out[0..24].copy_from_slice(&header_bytes(header));
+    out[0..24].copy_from_slice(&<[u8; 24]>::from(header));
     write_rows(rows, out);
 }
 

@@ -1,6 +1,3 @@
-mod Cuts
-mod FourBytes
-mod Glued
 pub mod Numbers
 pub mod ReadBack
 pub mod Rewritten

@@ -1,16 +1,36 @@
--- Numbers in bytes: what is written is read back, what is read is written again, and std's bytes of 32 and 64 bits are these. Assumes nothing.
-use Rattle.std.proofs.Common.{◌≡◌, ℕ, zero, suc, ◌+◌, ◌*◌, ◌/◌, ◌%◌, ◌^◌, ◌<◌, List, [], ◌∷◌, length, refl, ap, ◌∙◌, mod-eq_of_lt, pow-suc, arith}
-use native.Mathlib.Nat.{div-div-eq-div-mul, mod-add-div, add-mul-mod_self_left}
+-- Numbers in bytes: what is written is read back, what is read is written again, and std reads the same. Assumes nothing.
+use Rattle.std.proofs.Common.{◌≡◌, ℕ, zero, suc, ◌+◌, ◌*◌, ◌/◌, ◌%◌, ◌^◌, ◌<◌, List, [], ◌∷◌, length, get_or, take, drop, refl, ap, ◌∙◌, mod-eq_of_lt, pow-suc, arith}
+use native.Mathlib.Nat.{mod-add-div, add-mul-mod_self_left}
+use Rattle.std.proofs.lemmas.List.{take-take, drop-drop}
 use Rattle.std.proofs.lemmas.Nat.{div_below}
-use Rattle.boardfile.specs.Bytes.{value, written, Bytes}
+use Rattle.std.specs.Simd.{first_chunks}
+use Rattle.std.specs.Int.{w32, w64, from_le_bytes}
+use Rattle.boardfile.specs.Bytes.{value, written, number_at, Bytes}
 
--- AS STD WRITES THEM
+-- AS STD READS THEM
 
-pub four_written : (n : ℕ) → written 4 n ≡ (n % 256) ∷ (n / 256 % 256) ∷ (n / 65536 % 256) ∷ (n / 16777216 % 256) ∷ []
-four_written n = simp div-div-eq-div-mul
+-- bytes that are not there count as 0
+pub four_read : (bs : List ℕ) → from_le_bytes w32 bs ≡ value (take 4 bs)
+four_read [] = omega arith
+four_read (a ∷ []) = omega arith
+four_read (a ∷ b ∷ []) = omega arith
+four_read (a ∷ b ∷ c ∷ []) = omega arith
+four_read (a ∷ b ∷ c ∷ d ∷ bs) = omega arith
 
-pub eight_written : (n : ℕ) → written 8 n ≡ (n % 256) ∷ (n / 256 % 256) ∷ (n / 65536 % 256) ∷ (n / 16777216 % 256) ∷ (n / 4294967296 % 256) ∷ (n / 1099511627776 % 256) ∷ (n / 281474976710656 % 256) ∷ (n / 72057594037927936 % 256) ∷ []
-eight_written n = simp div-div-eq-div-mul
+eight_read : (bs : List ℕ) → from_le_bytes w64 bs ≡ value (take 8 bs)
+eight_read [] = omega arith
+eight_read (a ∷ []) = omega arith
+eight_read (a ∷ b ∷ []) = omega arith
+eight_read (a ∷ b ∷ c ∷ []) = omega arith
+eight_read (a ∷ b ∷ c ∷ d ∷ []) = omega arith
+eight_read (a ∷ b ∷ c ∷ d ∷ e ∷ []) = omega arith
+eight_read (a ∷ b ∷ c ∷ d ∷ e ∷ f ∷ []) = omega arith
+eight_read (a ∷ b ∷ c ∷ d ∷ e ∷ f ∷ g ∷ []) = omega arith
+eight_read (a ∷ b ∷ c ∷ d ∷ e ∷ f ∷ g ∷ h ∷ bs) = omega arith
+
+-- the last of three words of 64 bits
+pub third_read : (bs : List ℕ) (words : List (List ℕ)) → words ≡ first_chunks 8 3 bs → from_le_bytes w64 (get_or words 2 []) ≡ number_at 16 8 bs
+third_read bs words e = ap (λ (ws : List (List ℕ)). from_le_bytes w64 (get_or ws 2 [])) e ∙ eight_read (take 8 (drop 8 (drop 8 bs))) ∙ ap value (rw (take-take 8 8 (drop 8 (drop 8 bs)) (omega arith), drop-drop 8 8 bs))
 
 -- WHAT IS WRITTEN IS READ BACK
 

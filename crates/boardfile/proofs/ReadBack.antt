@@ -6,8 +6,9 @@ use Rattle.bookings.specs.Rows.{row_of, Book}
 use Rattle.bookings.specs.declared.row.Row.{Row}
 use Rattle.bookings.specs.declared.row.State.{State}
 use Rattle.bookings.specs.declared.row.State.TheVariants.{Blank, Confirmed, UnderWay, Held}
+use Rattle.bookings.specs.States.{state_number}
 use Rattle.boardfile.specs.Filings.{Filing}
-use Rattle.boardfile.specs.Files.{state_number, state_numbered, header_in, row_in, rows_in, file_length, header_bytes, row_bytes, header_of, file_of}
+use Rattle.boardfile.specs.Files.{state_numbered, header_in, row_in, rows_in, file_length, header_bytes, row_bytes, header_of, file_of}
 use Rattle.boardfile.specs.declared.header.Header.{Header}
 use Rattle.boardfile.proofs.Numbers.{value_four, value_eight}
 
@@ -58,7 +59,7 @@ pub record RowFits {L : Type 0} (f : Filing L) (r : Row L) : Type 0 where
   pub word_back : f.claim (f.word r.booking.claim) ≡ r.booking.claim
 
 module _ {L : Type 0} (f : Filing L) where
-  same_row : (n from until : ℕ) (p : L) (s : State) (r : Row L) → n ≡ r.number → from ≡ r.booking.start → until ≡ r.booking.end → p ≡ r.booking.claim → s ≡ r.state → row_of n (record { start = from; end = until; claim = p }) s ≡ r
+  pub same_row : (n from until : ℕ) (p : L) (s : State) (r : Row L) → n ≡ r.number → from ≡ r.booking.start → until ≡ r.booking.end → p ≡ r.booking.claim → s ≡ r.state → row_of n (record { start = from; end = until; claim = p }) s ≡ r
   same_row n from until p s r a b c d e = rw (a, b, c, d, e)
 
   -- whatever stands behind it

@@ -9,8 +9,9 @@ use Rattle.bookings.specs.declared.row.Row.{Row}
 use Rattle.bookings.specs.declared.row.State.TheVariants.{Blank, Confirmed, UnderWay, Held}
 use Rattle.boardfile.specs.Bytes.{written, number_at, Bytes}
 use Rattle.boardfile.specs.Faults.{settled}
+use Rattle.bookings.specs.States.{state_number}
 use Rattle.boardfile.specs.Filings.{Filing}
-use Rattle.boardfile.specs.Files.{state_number, state_numbered, header_in, row_in, rows_in, book_in, file_length, header_bytes, row_bytes, header_of, file_of}
+use Rattle.boardfile.specs.Files.{state_numbered, header_in, row_in, rows_in, book_in, file_length, header_bytes, row_bytes, header_of, file_of}
 use Rattle.boardfile.proofs.Numbers.{written_value}
 use Rattle.boardfile.proofs.ReadBack.{same_header}
 

@@ -3,6 +3,7 @@ use Rattle.std.specs.Prelude.{ℕ, ◌+◌, ◌*◌, cond, List, ◌++◌, map, 
 use Rattle.std.specs.Simd.{first_chunks}
 use Rattle.std.specs.List.{flat_map}
 use Rattle.bookings.specs.Rows.{row_of, Book}
+use Rattle.bookings.specs.States.{state_number}
 use Rattle.bookings.specs.declared.row.Row.{Row}
 use Rattle.bookings.specs.declared.row.State.{State}
 use Rattle.bookings.specs.declared.row.State.TheVariants.{Blank, Confirmed, UnderWay, Held}
@@ -10,18 +11,11 @@ use Rattle.boardfile.specs.Bytes.{written, number_at}
 use Rattle.boardfile.specs.Filings.{Filing}
 use Rattle.boardfile.specs.declared.header.Header.{Header}
 
--- STATES BY THEIR NUMBERS
+-- READING
 
-abbrev pub state_number : State → ℕ
-state_number Blank = 0
-state_number Confirmed = 1
-state_number UnderWay = 2
-state_number Held = 3
-
+-- the state of that number, where a number that is no state's counts as blank
 abbrev pub state_numbered : ℕ → State
 state_numbered n = cond (n == 1) Confirmed (cond (n == 2) UnderWay (cond (n == 3) Held Blank))
-
--- READING
 
 -- the header that bytes begin with
 abbrev pub header_in : List ℕ → Header

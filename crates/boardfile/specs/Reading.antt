@@ -1,5 +1,5 @@
 -- What the functions answer that read a file. Assumes nothing.
-use Rattle.std.specs.Prelude.{◌≡◌, ℕ, Bool, true, false, cond, List, length, drop, Some, None, Ok, Err, Option, Result, ◌==◌, nat_lt}
+use Rattle.std.specs.Prelude.{◌≡◌, ℕ, true, false, cond, List, length, drop, Some, None, Ok, Err, Result, ◌==◌, nat_lt}
 use Rattle.std.specs.Borrow.{Bor}
 use Rattle.std.specs.Simd.{first_chunks}
 use Rattle.units.specs.Kinds.{Kind}
@@ -12,10 +12,15 @@ use Rattle.boardfile.specs.Files.{header_in, row_in, file_length}
 use Rattle.boardfile.specs.Faults.{header_checks, row_allowed}
 use Rattle.boardfile.specs.declared.header.Header.{Header}
 
--- no whole header; or the header, the bytes of each row, and whether the file is as long as the count asks for
-abbrev pub Pieces : List ℕ → Option (Header × Bor (List (List ℕ)) × Bool) → Type 0
-Pieces bs None = nat_lt (length bs) 24 ≡ true
-Pieces bs (Some p) = (nat_lt (length bs) 24 ≡ false) × (p.0 ≡ header_in bs) × (p.2 ≡ (length bs == file_length (header_in bs).count)) × (p.2 ≡ true → p.1.now ≡ first_chunks 24 (header_in bs).count (drop 24 bs))
+-- the header that a file begins with
+abbrev pub FirstHeader : List ℕ → Result Header FileFault → Type 0
+FirstHeader bs (Ok header) = (nat_lt (length bs) 24 ≡ false) × (header ≡ header_in bs)
+FirstHeader bs (Err why) = (nat_lt (length bs) 24 ≡ true) × (why ≡ fault.Short)
+
+-- the bytes of each row behind the header, where there are as many as the count says and nothing is left over
+abbrev pub RowsBehind : List ℕ → ℕ → Result (Bor (List (List ℕ))) FileFault → Type 0
+RowsBehind bs count (Ok rows) = (length bs == file_length count ≡ true) × (rows.now ≡ first_chunks 24 count (drop 24 bs))
+RowsBehind bs count (Err why) = (length bs == file_length count ≡ false) × (why ≡ fault.Length)
 
 -- the header and the bytes of each row, where nothing stands against the file before its rows are read; or what does
 abbrev pub Opens : {L : Type 0} → Kind L → Filing L → ℕ → List ℕ → Result (Header × Bor (List (List ℕ))) FileFault → Type 0

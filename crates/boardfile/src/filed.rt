@@ -13,10 +13,12 @@ pub trait Filed: Units {
     ghost filing: { Filing Self };
 
     // The kind's number in a file.
+    // Stays: other firms may file kinds of their own, so no enum names them all; and a constant would need a ghost number and a law beside `filing` to say what one clause says here.
     fn code() -> u32
         ensures { result ≡ filing.code };
 
     // This claim as a number.
+    // Stays: by `From` and `Into`, this and `of_word` would need a law each that ties them to `filing`.
     fn word(self) -> u64
         ensures { result ≡ filing.word self };
 

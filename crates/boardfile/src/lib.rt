@@ -1,7 +1,6 @@
 //! The board file: its header and its rows, read with faults and written. No board is in it.
 #![tactic(auto)]
 
-mod bytes;
 pub mod filed;
 pub mod header;
 pub mod read;

@@ -1,10 +1,9 @@
 // Reading a board file: its header, and each row.
-ghost use Rattle.std.specs.Prelude.{◌≡◌};
-ghost use Rattle.boardfile.specs.Files.{header_in, row_in, state_numbered};
+ghost use Rattle.std.specs.Prelude.{◌≡◌, ◌≤◌, length};
+ghost use Rattle.boardfile.specs.Files.{row_in, state_numbered};
 ghost use Rattle.boardfile.specs.Faults.{header_allowed, row_allowed, settled, between};
-ghost use Rattle.boardfile.specs.Reading.{Pieces, Opens, read_row};
+ghost use Rattle.boardfile.specs.Reading.{FirstHeader, RowsBehind, Opens, read_row};
 
-use crate::bytes::{last_number, number_at};
 use crate::filed::Filed;
 use crate::header::Header;
 use bookings::booking::Booking;
@@ -18,68 +17,46 @@ const MOST_NEXT: u32 = 100_000;
 
 const ROWS_AT: u32 = 24;
 
-// The header that 24 bytes write.
-fn header_in(bytes: &[u8; 24]) -> Header
-    ensures { result ≡ header_in bytes.now }
-{
-    Header {
-        kind: number_at(bytes, 0),
-        capacity: number_at(bytes, 4),
-        horizon: number_at(bytes, 8),
-        next: number_at(bytes, 12),
-        count: number_at(bytes, 16),
-        offset: number_at(bytes, 20),
-    }
-}
-
 // Does each field but the count have a value that is allowed?
 fn header_allowed<L: Filed>(header: Header) -> bool
     ensures { result ≡ header_allowed L.Units.kind L.Filed.filing header }
 {
     header.kind == L::code()
-        && 1 <= header.capacity
-        && header.capacity <= L::most()
-        && 1 <= header.horizon
-        && header.horizon <= MOST_MINUTES
-        && 1 <= header.next
-        && header.next <= MOST_NEXT
+        && (1..=L::most()).contains(&header.capacity)
+        && (1..=MOST_MINUTES).contains(&header.horizon)
+        && (1..=MOST_NEXT).contains(&header.next)
         && header.offset == ROWS_AT
-}
-
-// The state that a number stands for.
-fn state_numbered(number: u32) -> State
-    ensures { result ≡ state_numbered number }
-{
-    match number {
-        1 => State::Confirmed,
-        2 => State::UnderWay,
-        3 => State::Held,
-        _ => State::Blank,
-    }
 }
 
 // Is the booking confirmed or under way?
 fn is_settled(state: State) -> bool
     ensures { result ≡ settled state }
 {
-    match state {
-        State::Confirmed | State::UnderWay => true,
-        State::Blank | State::Held => false,
-    }
+    matches!(state, State::Confirmed | State::UnderWay)
+}
+
+// The state of that number; a number that is no state's counts as blank, which no row of a file may be.
+fn state_numbered(number: u32) -> State
+    ensures { result ≡ state_numbered number }
+{
+    State::try_from(number).unwrap_or(State::Blank)
 }
 
 // The row that 24 bytes write.
+// Stays: an impl of `From` between bytes and rows would stand with neither its trait nor its types.
 fn row_in<L: Filed>(bytes: &[u8; 24]) -> Row<L>
     ensures { result ≡ row_in L.filing bytes.now }
 {
+    let (numbers, _) = bytes.as_chunks();
+    let (words, _) = bytes.as_chunks();
     Row {
-        number: number_at(bytes, 0),
+        number: u32::from_le_bytes(numbers[0]),
         booking: Booking {
-            start: number_at(bytes, 4),
-            end: number_at(bytes, 8),
-            claim: L::of_word(last_number(bytes)),
+            start: u32::from_le_bytes(numbers[1]),
+            end: u32::from_le_bytes(numbers[2]),
+            claim: L::of_word(u64::from_le_bytes(words[2])),
         },
-        state: state_numbered(number_at(bytes, 12)),
+        state: state_numbered(u32::from_le_bytes(numbers[3])),
     }
 }
 
@@ -88,8 +65,7 @@ fn row_allowed<L: Units>(row: &Row<L>, header: Header, low: u32) -> bool
     ensures { result ≡ row_allowed L.kind header low row.now }
 {
     let claim = row.booking.claim;
-    low <= row.number
-        && row.number < header.next
+    (low..header.next).contains(&row.number)
         && row.booking.start < row.booking.end
         && row.booking.end <= header.horizon
         && is_settled(row.state)
@@ -114,15 +90,27 @@ pub fn read_row<L: Filed>(
     }
 }
 
-// The header, the bytes of each row, and whether they are as many as the header's count asks for; or none where there is no whole header.
-fn pieces(bytes: &[u8]) -> Option<(Header, &[[u8; 24]], bool)>
-    ensures { Pieces bytes.now result }
+// The header that a file begins with.
+fn first_header(bytes: &[u8]) -> Result<Header, FileFault>
+    ensures { FirstHeader bytes.now result }
 {
-    let (first, rest) = bytes.split_first_chunk::<24>()?;
-    let header = header_in(first);
-    let (rows, _) = rest.as_chunks::<24>();
-    let whole = bytes.len() == 24 + 24 * header.count as usize;
-    Some((header, rows, whole))
+    bytes
+        .first_chunk()
+        .map(Header::from)
+        .ok_or(FileFault::Short)
+}
+
+// The bytes of each row behind the header, where there are as many as the count says and nothing is left over.
+fn rows_behind(bytes: &[u8], count: u32) -> Result<&[[u8; 24]], FileFault>
+    requires { 24 ≤ length bytes.now }
+    ensures { RowsBehind bytes.now count result }
+{
+    let (rows, rest) = bytes[24..].as_chunks();
+    if rows.len() == count as usize && rest.is_empty() {
+        Ok(rows)
+    } else {
+        Err(FileFault::Length)
+    }
 }
 
 // The header and the bytes of each row, where nothing stands against the file of a board with so many rows before they are read.
@@ -132,15 +120,11 @@ pub fn open_file<'a, L: Filed>(
 ) -> Result<(Header, &'a [[u8; 24]]), FileFault>
     ensures { Opens L.Units.kind L.Filed.filing room bytes.now result }
 {
-    let Some((header, rows, whole)) = pieces(bytes) else {
-        return Err(FileFault::Short);
-    };
+    let header = first_header(bytes)?;
     if !header_allowed::<L>(header) {
         return Err(FileFault::Header);
     }
-    if !whole {
-        return Err(FileFault::Length);
-    }
+    let rows = rows_behind(bytes, header.count)?;
     if room < header.count as usize {
         return Err(FileFault::Room);
     }

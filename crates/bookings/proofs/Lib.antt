@@ -4,5 +4,4 @@ pub mod Lists
 pub mod Few
 pub mod Grants
 pub mod Found
-mod Folds
 pub mod Numbers

@@ -1,4 +1,5 @@
 pub mod Bookings
+pub mod States
 pub mod Rows
 pub mod Table
 pub mod Refusals

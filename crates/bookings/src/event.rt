@@ -1,5 +1,5 @@
 // What may be done to a booking.
-#[derive(Clone, Copy)]
+#[derive(Clone, Copy, PartialEq, Eq, Debug)]
 pub enum Event {
     Confirm,
     Release,

@@ -3,7 +3,7 @@ ghost use Rattle.bookings.specs.Refusals.{number, fault_number};
 ghost use Rattle.bookings.specs.declared.refusal.Refusal.TheVariants.{File};
 
 // What is wrong with a board file; rows are counted from 0.
-#[derive(Clone, Copy)]
+#[derive(Clone, Copy, PartialEq, Eq, Debug)]
 pub enum FileFault {
     // Fewer bytes than a header has.
     Short,
@@ -19,24 +19,8 @@ pub enum FileFault {
     Clash(usize),
 }
 
-impl FileFault {
-    // The number of the refusal that the fault leads to.
-    pub fn number(self) -> u32
-        ensures { result ≡ fault_number self }
-    {
-        match self {
-            FileFault::Short => 14,
-            FileFault::Header => 15,
-            FileFault::Length => 16,
-            FileFault::Room => 17,
-            FileFault::Row(_) => 18,
-            FileFault::Clash(_) => 19,
-        }
-    }
-}
-
 // Why a call is refused.
-#[derive(Clone, Copy)]
+#[derive(Clone, Copy, PartialEq, Eq, Debug)]
 pub enum Refusal {
     // Setting up: the capacity is 0 or above the kind's most; the horizon is out of range; no rows, too many, or too few records.
     Capacity,
@@ -64,12 +48,37 @@ pub enum Refusal {
     SheetTooLong,
 }
 
-impl Refusal {
-    // The number that the refusal is known by.
-    pub fn number(self) -> u32
-        ensures { result ≡ number self }
-    {
-        match self {
+// A file that is at fault is refused for it.
+impl From<FileFault> for Refusal {
+    ghost from_gives = { λ fault why. why ≡ File fault };
+
+    fn from(value: FileFault) -> Refusal {
+        Refusal::File(value)
+    }
+}
+
+// The number of the refusal that the fault leads to.
+impl From<FileFault> for u32 {
+    ghost from_gives = { λ fault n. n ≡ fault_number fault };
+
+    fn from(value: FileFault) -> u32 {
+        match value {
+            FileFault::Short => 14,
+            FileFault::Header => 15,
+            FileFault::Length => 16,
+            FileFault::Room => 17,
+            FileFault::Row(_) => 18,
+            FileFault::Clash(_) => 19,
+        }
+    }
+}
+
+// The number that the refusal is known by.
+impl From<Refusal> for u32 {
+    ghost from_gives = { λ why n. n ≡ number why };
+
+    fn from(value: Refusal) -> u32 {
+        match value {
             Refusal::Capacity => 1,
             Refusal::Horizon => 2,
             Refusal::Memory => 3,
@@ -83,20 +92,11 @@ impl Refusal {
             Refusal::NoSuchBooking => 11,
             Refusal::WrongState => 12,
             Refusal::BookingStands => 13,
-            Refusal::File(fault) => fault.number(),
+            Refusal::File(fault) => u32::from(fault),
             Refusal::NotSettled => 20,
             Refusal::Buffer => 21,
             Refusal::BadLine => 22,
             Refusal::SheetTooLong => 23,
         }
-    }
-}
-
-// A file that is at fault is refused for it.
-impl From<FileFault> for Refusal {
-    ghost from_gives = { λ fault why. why ≡ File fault };
-
-    fn from(value: FileFault) -> Refusal {
-        Refusal::File(value)
     }
 }

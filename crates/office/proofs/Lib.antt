@@ -1,2 +1,2 @@
-mod FirstBytes
+mod ByKind
 mod OnABoard
