@@ -12,7 +12,7 @@ use crate::token::HoldToken;
 use bookings::booking::Booking;
 use bookings::refusal::Refusal;
 use bookings::row::{Row, State};
-use planning::find::find_claim;
+use planning::find::Search;
 use planning::found::Found;
 use planning::policy::Policy;
 use planning::request::Request;
@@ -63,13 +63,13 @@ impl<'m, L: Units> Board<'m, L> {
         ensures { Sought L.kind (holding self.now) request (P.preference policy.now) result }
     {
         self.witness.told();
-        find_claim(
-            self.slots.records(),
-            self.capacity,
-            self.horizon,
+        let search = Search {
+            slots: self.slots.records(),
+            capacity: self.capacity,
+            horizon: self.horizon,
             request,
-            policy,
-        )
+        };
+        search.find_claim(policy)
     }
 
     // Enters the booking that was found under the next number, and puts its claim on the slots of its span.

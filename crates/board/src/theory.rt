@@ -3,43 +3,31 @@ ghost use Rattle.board.specs.FileTheorems.{LoadsKeep, LoadsLeave, SavedLoads, Ac
 ghost use Rattle.board.specs.Theorems.{CallsKeep, StayPut};
 
 // Every call leaves a board whose slot list is the one of its rows, which are sound and in order.
-pub fn calls_keep<L>() -> u8
+pub fn calls_keep<L>()
     ensures { CallsKeep L }
-{
-    0
-}
+{}
 
 // No call moves or changes another booking's number, start, end or claim.
-pub fn bookings_stay_put<L>() -> u8
+pub fn bookings_stay_put<L>()
     ensures { StayPut L }
-{
-    0
-}
+{}
 
 // So does the load of any bytes.
-pub fn loads_keep<L>() -> u8
+pub fn loads_keep<L>()
     ensures { LoadsKeep L }
-{
-    0
-}
+{}
 
 // While a booking stands, a load changes nothing.
-pub fn loads_leave<L>() -> u8
+pub fn loads_leave<L>()
     ensures { LoadsLeave L }
-{
-    0
-}
+{}
 
 // A saved board is loaded as its equal by any empty board of its kind with rows enough.
-pub fn saved_boards_load<L>() -> u8
+pub fn saved_boards_load<L>()
     ensures { SavedLoads L }
-{
-    0
-}
+{}
 
 // An accepted file is byte for byte what saving the loaded board writes.
-pub fn accepted_files_are_saved<L>() -> u8
+pub fn accepted_files_are_saved<L>()
     ensures { AcceptedIsSaved L }
-{
-    0
-}
+{}

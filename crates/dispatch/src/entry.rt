@@ -12,7 +12,7 @@ ghost use Rattle.dispatch.specs.Grants.{booking_in, told};
 use board::board::Board;
 use board::grant::Grant;
 use bookings::refusal::Refusal;
-use planning::policy::EarliestStart;
+use planning::policy::EARLIEST_START;
 use planning::request::Request;
 use sheet::answer::Answer;
 use sheet::item::Item;
@@ -52,7 +52,7 @@ fn held(board: &mut Board<'_, Crew>, request: Request, welcome: u32) -> Result<A
     ensures board { holding board.new ≡ hold_leaves welcome (after crew_kind (holding board.old) (hold request earliest_start)) (answer crew_kind (holding board.old) (hold request earliest_start)) }
     ensures lent { (board.new.rows.rows.ghost_name ≡ board.old.rows.rows.ghost_name) × (board.new.slots.slots.ghost_name ≡ board.old.slots.slots.ghost_name) }
 {
-    let grant = board.hold(request, &EarliestStart)?;
+    let grant = board.hold(request, &EARLIEST_START)?;
     Ok(settle(board, grant, welcome))
 }
 

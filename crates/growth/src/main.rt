@@ -7,7 +7,7 @@ use board::grant::Grant;
 use bookings::booking::Booking;
 use bookings::row::{Row, State};
 use dispatch::entry::run_line;
-use planning::policy::{EarliestStart, LargestProduct, Policy};
+use planning::policy::{EARLIEST_START, LARGEST_PRODUCT, Policy};
 use planning::request::Request;
 use sheet::item::Item;
 use sheet::line::Line;
@@ -99,8 +99,8 @@ fn measure(rt: &HostRuntime, rows: usize, times: u32) -> anyhow::Result<()> {
     let used = rows.min(MOST_ROWS);
     let mut board = Board::make(MECHANICS, HORIZON, &mut all_rows[0..used], &mut all_slots);
     fill(&mut board, used.saturating_sub(1) as u32);
-    let earliest = time(rt, &mut board, &EarliestStart, times)?;
-    let largest = time(rt, &mut board, &LargestProduct, times)?;
+    let earliest = time(rt, &mut board, &EARLIEST_START, times)?;
+    let largest = time(rt, &mut board, &LARGEST_PRODUCT, times)?;
     let records = board.slots().len();
     println!(rt;
         "{used} rows, {records} records, {times} times: {earliest} ns by earliest start, {largest} ns by largest product"
