@@ -4,8 +4,7 @@
 
 use board::board::Board;
 use board::grant::Grant;
-use bookings::booking::Booking;
-use bookings::row::{Row, State};
+use board::setup::blank_row;
 use dispatch::entry::run_line;
 use planning::policy::{EARLIEST_START, LARGEST_PRODUCT, Policy};
 use planning::request::Request;
@@ -52,10 +51,7 @@ fn hold_and_release<P: Policy>(board: &mut Board<'_, Crew>, request: Request, po
             claim: _,
             token,
         } = grant;
-        match board.release(token) {
-            Ok(()) => {}
-            Err(_) => unreachable(),
-        }
+        board.release(token).unwrap();
     }
 }
 
@@ -82,16 +78,7 @@ fn time<P: Policy>(
 // Fills a board with so many rows, and prints what holds on it take.
 fn measure(rt: &HostRuntime, rows: usize, times: u32) -> anyhow::Result<()> {
     let nobody = Crew { mask: 0 };
-    let blank = Row {
-        number: 0,
-        booking: Booking {
-            start: 0,
-            end: 0,
-            claim: nobody,
-        },
-        state: State::Blank,
-    };
-    let mut all_rows = [blank; MOST_ROWS];
+    let mut all_rows = [blank_row(nobody); MOST_ROWS];
     let mut all_slots = [Slot {
         minute: 0,
         value: nobody,
