@@ -4,8 +4,6 @@
 ghost use Rattle.examples.specs.Examples.{Examples};
 
 // What the definitions of the calls yield for the worked examples.
-pub fn examples_hold() -> u8
+pub fn examples_hold()
     ensures { Examples }
-{
-    0
-}
+{}

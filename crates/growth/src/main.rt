@@ -4,10 +4,9 @@
 
 use board::board::Board;
 use board::grant::Grant;
-use bookings::booking::Booking;
-use bookings::row::{Row, State};
+use board::setup::blank_row;
 use dispatch::entry::run_line;
-use planning::policy::{EarliestStart, LargestProduct, Policy};
+use planning::policy::{EARLIEST_START, LARGEST_PRODUCT, Policy};
 use planning::request::Request;
 use sheet::item::Item;
 use sheet::line::Line;
@@ -52,10 +51,7 @@ fn hold_and_release<P: Policy>(board: &mut Board<'_, Crew>, request: Request, po
             claim: _,
             token,
         } = grant;
-        match board.release(token) {
-            Ok(()) => {}
-            Err(_) => unreachable(),
-        }
+        board.release(token).unwrap();
     }
 }
 
@@ -82,16 +78,7 @@ fn time<P: Policy>(
 // Fills a board with so many rows, and prints what holds on it take.
 fn measure(rt: &HostRuntime, rows: usize, times: u32) -> anyhow::Result<()> {
     let nobody = Crew { mask: 0 };
-    let blank = Row {
-        number: 0,
-        booking: Booking {
-            start: 0,
-            end: 0,
-            claim: nobody,
-        },
-        state: State::Blank,
-    };
-    let mut all_rows = [blank; MOST_ROWS];
+    let mut all_rows = [blank_row(nobody); MOST_ROWS];
     let mut all_slots = [Slot {
         minute: 0,
         value: nobody,
@@ -99,8 +86,8 @@ fn measure(rt: &HostRuntime, rows: usize, times: u32) -> anyhow::Result<()> {
     let used = rows.min(MOST_ROWS);
     let mut board = Board::make(MECHANICS, HORIZON, &mut all_rows[0..used], &mut all_slots);
     fill(&mut board, used.saturating_sub(1) as u32);
-    let earliest = time(rt, &mut board, &EarliestStart, times)?;
-    let largest = time(rt, &mut board, &LargestProduct, times)?;
+    let earliest = time(rt, &mut board, &EARLIEST_START, times)?;
+    let largest = time(rt, &mut board, &LARGEST_PRODUCT, times)?;
     let records = board.slots().len();
     println!(rt;
         "{used} rows, {records} records, {times} times: {earliest} ns by earliest start, {largest} ns by largest product"

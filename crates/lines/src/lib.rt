@@ -10,29 +10,21 @@ use boardfile::filed::Filed;
 use units::kind::Units;
 
 // At every point of every line of calls, for every lawful kind and under any policies.
-pub fn lines_keep_their_promise<L>() -> u8
+pub fn lines_keep_their_promise<L>()
     ensures { LinesPromise L }
-{
-    0
-}
+{}
 
 // The same for each kind of unit that boards are made of.
-pub fn boards_keep_their_promise<L: Units>() -> u8
+pub fn boards_keep_their_promise<L: Units>()
     ensures { (line : Line L) → Promise L.Units.kind line }
-{
-    0
-}
+{}
 
 // At every point of every line of calls and loads, however claims are filed.
-pub fn lines_with_loads_keep_their_promise<L>() -> u8
+pub fn lines_with_loads_keep_their_promise<L>()
     ensures { FiledLinesPromise L }
-{
-    0
-}
+{}
 
 // The same for each kind whose boards have files, with the files that they load and save.
-pub fn filed_boards_keep_their_promise<L: Filed>() -> u8
+pub fn filed_boards_keep_their_promise<L: Filed>()
     ensures { (line : FiledLine L) → Begins L.Units.kind line → FiledPromise L.Units.kind L.Filed.filing line }
-{
-    0
-}
+{}

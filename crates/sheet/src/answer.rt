@@ -8,7 +8,7 @@ use std::alloc::AllocError;
 use std::fmt;
 use units::crew::Crew;
 
-#[derive(Clone, Copy)]
+#[derive(Clone, Copy, PartialEq, Eq, Debug)]
 pub enum Answer {
     // A hold was granted and confirmed.
     Granted { number: u32, start: u32, claim: u64 },
@@ -76,7 +76,7 @@ impl fmt::Display for Printed<'_> {
             Answer::Late { number, start } => writeln!(f, "late {number} {start}"),
             Answer::Done => writeln!(f, "ok"),
             Answer::Refused(refusal) => {
-                let number = refusal.number();
+                let number = u32::from(refusal);
                 writeln!(f, "no {number}")
             }
             Answer::Listed => {

@@ -1,12 +1,8 @@
 // Boards, and what calls on them must answer and leave. The answers were worked out from the rules, minute by minute, and not by this program.
-ghost use Rattle.std.specs.Prelude.{◌≡◌, true, is_ok};
-
 use board::board::Board;
 use board::grant::Grant;
 use board::setup::set_up_check;
-use board::token::HoldToken;
 use bookings::booking::Booking;
-use bookings::refusal::Refusal;
 use bookings::row::{Row, State};
 use planning::policy::*;
 use planning::request::Request;
@@ -27,19 +23,17 @@ fn request(ready: u32, duration: u32, deadline: u32, wanted: u32) -> Request {
     }
 }
 
-// A record of a crew's slot list, and of a stock's.
+// A record of a slot list; of a crew's, and of a stock's.
+fn slot<L>(minute: u32, value: L) -> Slot<L> {
+    Slot { minute, value }
+}
+
 fn crew(minute: u32, mask: u64) -> Slot<Crew> {
-    Slot {
-        minute,
-        value: Crew { mask },
-    }
+    slot(minute, Crew { mask })
 }
 
 fn stock(minute: u32, count: u64) -> Slot<Stock> {
-    Slot {
-        minute,
-        value: Stock { count },
-    }
+    slot(minute, Stock { count })
 }
 
 fn row<L: Units>(number: u32, start: u32, end: u32, claim: L, state: State) -> Row<L> {
@@ -56,7 +50,7 @@ fn no_row<L: Units>() -> Row<L> {
 
 fn slots_are<L: Units>(rt: &impl Abort, slots: &[Slot<L>], expected: &[Slot<L>]) {
     assert_eq!(rt; slots.len(), expected.len());
-    for (slot, wanted) in slots.iter().zip(expected.iter()) {
+    for (slot, wanted) in slots.iter().zip(expected) {
         assert_eq!(rt; slot.minute, wanted.minute);
         assert!(rt; slot.value.same(wanted.value));
     }
@@ -64,58 +58,12 @@ fn slots_are<L: Units>(rt: &impl Abort, slots: &[Slot<L>], expected: &[Slot<L>])
 
 fn rows_are<L: Units>(rt: &impl Abort, rows: &[Row<L>], expected: &[Row<L>]) {
     assert_eq!(rt; rows.len(), expected.len());
-    for (row, wanted) in rows.iter().zip(expected.iter()) {
+    for (row, wanted) in rows.iter().zip(expected) {
         assert_eq!(rt; row.number, wanted.number);
         assert_eq!(rt; row.booking.start, wanted.booking.start);
         assert_eq!(rt; row.booking.end, wanted.booking.end);
         assert!(rt; row.booking.claim.same(wanted.booking.claim));
-        assert_eq!(rt; row.state as u8, wanted.state as u8);
-    }
-}
-
-// The token was taken, since its booking was held.
-fn spent(res: Result<(), HoldToken>)
-    requires { is_ok res ≡ true }
-{
-    match res {
-        Ok(()) => {}
-        Err(_) => unreachable(),
-    }
-}
-
-// The number of a refusal, 0 where there is none.
-fn refusal(check: Option<Refusal>) -> u32 {
-    match check {
-        Some(refusal) => refusal.number(),
-        None => 0,
-    }
-}
-
-// Holds by the policy, and confirms or releases what is granted.
-fn hold<L: Units, P: Policy>(
-    board: &mut Board<'_, L>,
-    request: Request,
-    policy: &P,
-    keep: bool,
-) -> Result<(u32, Booking<L>), Refusal> {
-    board.keeps();
-    match board.hold(request, policy) {
-        Ok(grant) => {
-            let Grant {
-                number,
-                start,
-                end,
-                claim,
-                token,
-            } = grant;
-            spent(if keep {
-                board.confirm(token)
-            } else {
-                board.release(token)
-            });
-            Ok((number, Booking { start, end, claim }))
-        }
-        Err(refusal) => Err(refusal),
+        assert_eq!(rt; row.state, wanted.state);
     }
 }
 
@@ -128,19 +76,23 @@ fn book<L: Units>(
     start: u32,
     claim: L,
 ) -> Result<(), Fail> {
-    match hold(board, asked, &EarliestStart, true) {
-        Ok((got, booking)) => {
-            assert_eq!(rt; got, number);
-            assert_eq!(rt; booking.start, start);
-            assert_eq!(rt;
-                u64::from(booking.end),
-                u64::from(start) + u64::from(asked.duration)
-            );
-            assert!(rt; booking.claim.same(claim));
-            Ok(())
-        }
-        Err(refusal) => Err(Fail::new(refusal.number())),
-    }
+    let grant = board.hold(asked, &EARLIEST_START)?;
+    let Grant {
+        number: granted,
+        start: begin,
+        end,
+        claim: taken,
+        token,
+    } = grant;
+    board.confirm(token).unwrap();
+    assert_eq!(rt; granted, number);
+    assert_eq!(rt; begin, start);
+    assert_eq!(rt;
+        u64::from(end),
+        u64::from(start) + u64::from(asked.duration)
+    );
+    assert!(rt; taken.same(claim));
+    Ok(())
 }
 
 // The start that the policy chooses, or the number of the refusal: the booking is released at once.
@@ -149,18 +101,16 @@ fn start<L: Units, P: Policy>(
     asked: Request,
     policy: &P,
 ) -> Result<u32, u32> {
-    match hold(board, asked, policy, false) {
-        Ok((_, booking)) => Ok(booking.start),
-        Err(refusal) => Err(refusal.number()),
-    }
-}
-
-// Done, or the number of the refusal.
-fn done(res: Result<(), Refusal>) -> Result<(), u32> {
-    match res {
-        Ok(()) => Ok(()),
-        Err(refusal) => Err(refusal.number()),
-    }
+    let grant = board.hold(asked, policy)?;
+    let Grant {
+        number: _,
+        start,
+        end: _,
+        claim: _,
+        token,
+    } = grant;
+    board.release(token).unwrap();
+    Ok(start)
 }
 
 // A held booking can be neither cancelled, begun nor finished; then it is confirmed.
@@ -169,28 +119,23 @@ fn barred_while_held<L: Units>(
     board: &mut Board<'_, L>,
     asked: Request,
 ) -> Result<(), Fail> {
-    board.keeps();
-    match board.hold(asked, &EarliestStart) {
-        Ok(grant) => {
-            let Grant {
-                number: _,
-                start: _,
-                end: _,
-                claim: _,
-                token,
-            } = grant;
-            let number = token.number();
-            let cancelled = done(board.cancel(number));
-            let begun = done(board.begin(number));
-            let finished = done(board.finish(number));
-            spent(board.confirm(token));
-            assert_eq!(rt; cancelled, Err(12));
-            assert_eq!(rt; begun, Err(12));
-            assert_eq!(rt; finished, Err(12));
-            Ok(())
-        }
-        Err(refusal) => Err(Fail::new(refusal.number())),
-    }
+    let grant = board.hold(asked, &EARLIEST_START)?;
+    let Grant {
+        number: _,
+        start: _,
+        end: _,
+        claim: _,
+        token,
+    } = grant;
+    let number = token.number();
+    let cancelled = board.cancel(number).map_err(u32::from);
+    let begun = board.begin(number).map_err(u32::from);
+    let finished = board.finish(number).map_err(u32::from);
+    board.confirm(token).unwrap();
+    assert_eq!(rt; cancelled, Err(12));
+    assert_eq!(rt; begun, Err(12));
+    assert_eq!(rt; finished, Err(12));
+    Ok(())
 }
 
 // A token that another board neither confirms nor releases comes back, and its own board takes it.
@@ -200,28 +145,21 @@ fn handed_back<L: Units>(
     other: &mut Board<'_, L>,
     asked: Request,
 ) -> Result<(), Fail> {
-    board.keeps();
-    match board.hold(asked, &EarliestStart) {
-        Ok(grant) => {
-            let Grant {
-                number,
-                start: _,
-                end: _,
-                claim: _,
-                token,
-            } = grant;
-            match other.confirm(token) {
-                Ok(()) => Err(Fail::new("another board took the token")),
-                Err(back) => {
-                    let same = back.number();
-                    spent(board.confirm(back));
-                    assert_eq!(rt; same, number);
-                    Ok(())
-                }
-            }
-        }
-        Err(refusal) => Err(Fail::new(refusal.number())),
-    }
+    let grant = board.hold(asked, &EARLIEST_START)?;
+    let Grant {
+        number,
+        start: _,
+        end: _,
+        claim: _,
+        token,
+    } = grant;
+    let Err(back) = other.confirm(token) else {
+        return Err(Fail::new("another board took the token"));
+    };
+    let same = back.number();
+    board.confirm(back).unwrap();
+    assert_eq!(rt; same, number);
+    Ok(())
 }
 
 #[test]
@@ -230,19 +168,19 @@ fn a_crew_of_four(rt: HostRuntime) -> Result<(), Fail> {
     let mut slots = [crew(0, 0); 8];
     let mut board = Board::make(4, 100, &mut rows, &mut slots);
     assert_eq!(rt;
-        start(&mut board, request(0, 0, 10, 1), &EarliestStart),
+        start(&mut board, request(0, 0, 10, 1), &EARLIEST_START),
         Err(4)
     );
     assert_eq!(rt;
-        start(&mut board, request(0, 10, 10, 5), &EarliestStart),
+        start(&mut board, request(0, 10, 10, 5), &EARLIEST_START),
         Err(5)
     );
     assert_eq!(rt;
-        start(&mut board, request(0, 10, 9, 1), &EarliestStart),
+        start(&mut board, request(0, 10, 9, 1), &EARLIEST_START),
         Err(6)
     );
     assert_eq!(rt;
-        start(&mut board, request(91, 10, 101, 1), &EarliestStart),
+        start(&mut board, request(91, 10, 101, 1), &EARLIEST_START),
         Err(6)
     );
     assert_eq!(rt; board.next_number(), 1);
@@ -268,7 +206,7 @@ fn a_crew_of_four(rt: HostRuntime) -> Result<(), Fail> {
         &[crew(0, 3), crew(5, 15), crew(10, 12), crew(15, 0)],
     );
     assert_eq!(rt;
-        start(&mut board, request(0, 10, 19, 2), &EarliestStart),
+        start(&mut board, request(0, 10, 19, 2), &EARLIEST_START),
         Err(9)
     );
     book(
@@ -284,7 +222,7 @@ fn a_crew_of_four(rt: HostRuntime) -> Result<(), Fail> {
         board.slots(),
         &[crew(0, 3), crew(5, 15), crew(15, 3), crew(20, 0)],
     );
-    assert_eq!(rt; done(board.cancel(1)), Ok(()));
+    assert_eq!(rt; board.cancel(1), Ok(()));
     slots_are(
         &rt,
         board.slots(),
@@ -307,7 +245,7 @@ fn by_the_most_free(rt: HostRuntime) -> Result<(), Fail> {
     let mut slots = [crew(0, 0); 8];
     let mut board = Board::make(4, 100, &mut rows, &mut slots);
     assert_eq!(rt;
-        start(&mut board, request(90, 10, 100, 1), &EarliestStart),
+        start(&mut board, request(90, 10, 100, 1), &EARLIEST_START),
         Ok(90)
     );
     book(
@@ -326,7 +264,10 @@ fn by_the_most_free(rt: HostRuntime) -> Result<(), Fail> {
         5,
         Crew { mask: 12 },
     )?;
-    assert_eq!(rt; start(&mut board, request(0, 10, 40, 2), &MostFree), Ok(15));
+    assert_eq!(rt;
+        start(&mut board, request(0, 10, 40, 2), &MOST_FREE),
+        Ok(15)
+    );
     Ok(())
 }
 
@@ -344,7 +285,7 @@ fn a_stock_of_three(rt: HostRuntime) -> Result<(), Fail> {
         Stock { count: 2 },
     )?;
     assert_eq!(rt;
-        start(&mut board, request(5, 10, 15, 2), &EarliestStart),
+        start(&mut board, request(5, 10, 15, 2), &EARLIEST_START),
         Err(9)
     );
     book(
@@ -390,13 +331,13 @@ fn seven_policies_and_the_earliest_of_equals(rt: HostRuntime) -> Result<(), Fail
         Stock { count: 6 },
     )?;
     let asked = request(5, 10, 60, 2);
-    assert_eq!(rt; start(&mut board, asked, &EarliestStart), Ok(5));
-    assert_eq!(rt; start(&mut board, asked, &FewestFree), Ok(30));
-    assert_eq!(rt; start(&mut board, asked, &MostFree), Ok(10));
-    assert_eq!(rt; start(&mut board, asked, &ShortestStretch), Ok(45));
-    assert_eq!(rt; start(&mut board, asked, &LongestStretch), Ok(30));
-    assert_eq!(rt; start(&mut board, asked, &SmallestProduct), Ok(40));
-    assert_eq!(rt; start(&mut board, asked, &LargestProduct), Ok(25));
+    assert_eq!(rt; start(&mut board, asked, &EARLIEST_START), Ok(5));
+    assert_eq!(rt; start(&mut board, asked, &FEWEST_FREE), Ok(30));
+    assert_eq!(rt; start(&mut board, asked, &MOST_FREE), Ok(10));
+    assert_eq!(rt; start(&mut board, asked, &SHORTEST_STRETCH), Ok(45));
+    assert_eq!(rt; start(&mut board, asked, &LONGEST_STRETCH), Ok(30));
+    assert_eq!(rt; start(&mut board, asked, &SMALLEST_PRODUCT), Ok(40));
+    assert_eq!(rt; start(&mut board, asked, &LARGEST_PRODUCT), Ok(25));
     Ok(())
 }
 
@@ -404,14 +345,23 @@ fn seven_policies_and_the_earliest_of_equals(rt: HostRuntime) -> Result<(), Fail
 fn setting_up(rt: HostRuntime) {
     assert!(rt; set_up_check::<Crew>(64, 1_048_576, 256, 512).is_none());
     assert!(rt; set_up_check::<Stock>(4_095, 1, 1, 2).is_none());
-    assert_eq!(rt; refusal(set_up_check::<Crew>(0, 0, 0, 0)), 1);
-    assert_eq!(rt; refusal(set_up_check::<Crew>(65, 1, 1, 2)), 1);
-    assert_eq!(rt; refusal(set_up_check::<Stock>(4_096, 1, 1, 2)), 1);
-    assert_eq!(rt; refusal(set_up_check::<Crew>(1, 0, 0, 0)), 2);
-    assert_eq!(rt; refusal(set_up_check::<Crew>(1, 1_048_577, 1, 2)), 2);
-    assert_eq!(rt; refusal(set_up_check::<Crew>(1, 1, 0, 2)), 3);
-    assert_eq!(rt; refusal(set_up_check::<Crew>(1, 1, 257, 1_000)), 3);
-    assert_eq!(rt; refusal(set_up_check::<Crew>(1, 1, 2, 3)), 3);
+    assert_eq!(rt; set_up_check::<Crew>(0, 0, 0, 0).map_or(0, u32::from), 1);
+    assert_eq!(rt; set_up_check::<Crew>(65, 1, 1, 2).map_or(0, u32::from), 1);
+    assert_eq!(rt;
+        set_up_check::<Stock>(4_096, 1, 1, 2).map_or(0, u32::from),
+        1
+    );
+    assert_eq!(rt; set_up_check::<Crew>(1, 0, 0, 0).map_or(0, u32::from), 2);
+    assert_eq!(rt;
+        set_up_check::<Crew>(1, 1_048_577, 1, 2).map_or(0, u32::from),
+        2
+    );
+    assert_eq!(rt; set_up_check::<Crew>(1, 1, 0, 2).map_or(0, u32::from), 3);
+    assert_eq!(rt;
+        set_up_check::<Crew>(1, 1, 257, 1_000).map_or(0, u32::from),
+        3
+    );
+    assert_eq!(rt; set_up_check::<Crew>(1, 1, 2, 3).map_or(0, u32::from), 3);
 }
 
 // Its memory is as it was, and every hold is refused.
@@ -426,14 +376,14 @@ fn a_closed_board(rt: HostRuntime) {
     assert_eq!(rt; board.room(), 0);
     assert_eq!(rt; board.next_number(), 1);
     assert_eq!(rt;
-        start(&mut board, request(0, 0, 0, 1), &EarliestStart),
+        start(&mut board, request(0, 0, 0, 1), &EARLIEST_START),
         Err(4)
     );
     assert_eq!(rt;
-        start(&mut board, request(0, 1, 0, 1), &EarliestStart),
+        start(&mut board, request(0, 1, 0, 1), &EARLIEST_START),
         Err(5)
     );
-    assert_eq!(rt; done(board.cancel(7)), Err(11));
+    assert_eq!(rt; board.cancel(7).map_err(u32::from), Err(11));
     let (rows, slots) = board.close();
     rows_are(&rt, rows, &[old, old]);
     slots_are(
@@ -470,7 +420,7 @@ fn memory_handed_back(rt: HostRuntime) -> Result<(), Fail> {
     )?;
     assert!(rt; board.load_at(9).mask == 15);
     assert!(rt; board.load_at(10).mask == 14);
-    assert_eq!(rt; done(board.cancel(1)), Ok(()));
+    assert_eq!(rt; board.cancel(1), Ok(()));
     assert_eq!(rt; board.next_number(), 3);
     let (rows, slots) = board.close();
     rows_are(
@@ -500,17 +450,17 @@ fn full_and_used_up(rt: HostRuntime) -> Result<(), Fail> {
     let mut board = Board::make(1, 10, &mut rows, &mut slots);
     let asked = request(0, 10, 10, 1);
     for _ in 0..99_998 {
-        assert_eq!(rt; start(&mut board, asked, &EarliestStart), Ok(0));
+        assert_eq!(rt; start(&mut board, asked, &EARLIEST_START), Ok(0));
     }
     book(&rt, &mut board, asked, 99_999, 0, Crew { mask: 1 })?;
     assert_eq!(rt;
-        start(&mut board, request(0, 10, 9, 1), &EarliestStart),
+        start(&mut board, request(0, 10, 9, 1), &EARLIEST_START),
         Err(6)
     );
-    assert_eq!(rt; start(&mut board, asked, &EarliestStart), Err(7));
-    assert_eq!(rt; done(board.cancel(99_999)), Ok(()));
+    assert_eq!(rt; start(&mut board, asked, &EARLIEST_START), Err(7));
+    assert_eq!(rt; board.cancel(99_999), Ok(()));
     assert_eq!(rt; board.next_number(), 100_000);
-    assert_eq!(rt; start(&mut board, asked, &EarliestStart), Err(8));
+    assert_eq!(rt; start(&mut board, asked, &EARLIEST_START), Err(8));
     Ok(())
 }
 
@@ -521,18 +471,18 @@ fn a_crew_of_64_to_the_last_minute(rt: HostRuntime) -> Result<(), Fail> {
     let mut board = Board::make(64, 1_048_576, &mut rows, &mut slots);
     let all = Crew { mask: u64::MAX };
     assert_eq!(rt;
-        start(&mut board, request(0, 1, 1, 65), &EarliestStart),
+        start(&mut board, request(0, 1, 1, 65), &EARLIEST_START),
         Err(5)
     );
     assert_eq!(rt;
-        start(&mut board, request(0, 1, 1_048_577, 1), &EarliestStart),
+        start(&mut board, request(0, 1, 1_048_577, 1), &EARLIEST_START),
         Err(6)
     );
     assert_eq!(rt;
         start(
             &mut board,
             request(u32::MAX, u32::MAX, 1_048_576, 1),
-            &EarliestStart,
+            &EARLIEST_START,
         ),
         Err(6)
     );
@@ -546,10 +496,10 @@ fn a_crew_of_64_to_the_last_minute(rt: HostRuntime) -> Result<(), Fail> {
     )?;
     slots_are(&rt, board.slots(), &[crew(0, u64::MAX), crew(1_048_576, 0)]);
     assert_eq!(rt;
-        start(&mut board, request(0, 1, 1_048_576, 1), &EarliestStart),
+        start(&mut board, request(0, 1, 1_048_576, 1), &EARLIEST_START),
         Err(9)
     );
-    assert_eq!(rt; done(board.cancel(1)), Ok(()));
+    assert_eq!(rt; board.cancel(1), Ok(()));
     slots_are(&rt, board.slots(), &[]);
     book(
         &rt,
@@ -587,7 +537,7 @@ fn a_stock_of_4095(rt: HostRuntime) -> Result<(), Fail> {
     let mut slots = [stock(0, 0); 4];
     let mut board = Board::make(4_095, 10, &mut rows, &mut slots);
     assert_eq!(rt;
-        start(&mut board, request(0, 1, 10, 4_096), &EarliestStart),
+        start(&mut board, request(0, 1, 10, 4_096), &EARLIEST_START),
         Err(5)
     );
     book(
@@ -599,11 +549,11 @@ fn a_stock_of_4095(rt: HostRuntime) -> Result<(), Fail> {
         Stock { count: 4_095 },
     )?;
     assert_eq!(rt;
-        start(&mut board, request(0, 6, 10, 1), &EarliestStart),
+        start(&mut board, request(0, 6, 10, 1), &EARLIEST_START),
         Err(9)
     );
     assert_eq!(rt;
-        start(&mut board, request(0, 5, 10, 4_095), &EarliestStart),
+        start(&mut board, request(0, 5, 10, 4_095), &EARLIEST_START),
         Ok(5)
     );
     Ok(())
@@ -628,20 +578,20 @@ fn moves_by_number(rt: HostRuntime) -> Result<(), Fail> {
         board.slots(),
         &[crew(0, 15), crew(10, 255), crew(20, 15), crew(30, 0)],
     );
-    assert_eq!(rt; done(board.finish(1)), Err(12));
-    assert_eq!(rt; done(board.begin(2)), Ok(()));
-    assert_eq!(rt; done(board.begin(2)), Err(12));
-    assert_eq!(rt; done(board.cancel(2)), Err(12));
-    assert_eq!(rt; done(board.cancel(1)), Ok(()));
+    assert_eq!(rt; board.finish(1).map_err(u32::from), Err(12));
+    assert_eq!(rt; board.begin(2), Ok(()));
+    assert_eq!(rt; board.begin(2).map_err(u32::from), Err(12));
+    assert_eq!(rt; board.cancel(2).map_err(u32::from), Err(12));
+    assert_eq!(rt; board.cancel(1), Ok(()));
     slots_are(&rt, board.slots(), &[crew(10, 240), crew(20, 0)]);
     rows_are(
         &rt,
         board.rows(),
         &[row(2, 10, 20, Crew { mask: 240 }, State::UnderWay)],
     );
-    assert_eq!(rt; done(board.cancel(1)), Err(11));
-    assert_eq!(rt; done(board.finish(2)), Ok(()));
-    assert_eq!(rt; done(board.finish(2)), Err(11));
+    assert_eq!(rt; board.cancel(1).map_err(u32::from), Err(11));
+    assert_eq!(rt; board.finish(2), Ok(()));
+    assert_eq!(rt; board.finish(2).map_err(u32::from), Err(11));
     slots_are(&rt, board.slots(), &[]);
     Ok(())
 }
