@@ -1,3 +1,4 @@
 pub mod Numbers
+mod Opened
 pub mod ReadBack
 pub mod Rewritten

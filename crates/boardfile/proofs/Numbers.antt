@@ -1,6 +1,7 @@
 -- Numbers in bytes: what is written is read back, what is read is written again, and std reads the same. Assumes nothing.
 use Rattle.std.proofs.Common.{◌≡◌, ℕ, zero, suc, ◌+◌, ◌*◌, ◌/◌, ◌%◌, ◌^◌, ◌<◌, List, [], ◌∷◌, length, get_or, take, drop, refl, ap, ◌∙◌, mod-eq_of_lt, pow-suc, arith}
 use native.Mathlib.Nat.{mod-add-div, add-mul-mod_self_left}
+use Rattle.std.proofs.Math.Nat.{mul-suc}
 use Rattle.std.proofs.lemmas.List.{take-take, drop-drop}
 use Rattle.std.proofs.lemmas.Nat.{div_below}
 use Rattle.std.specs.Simd.{first_chunks}
@@ -10,7 +11,7 @@ use Rattle.boardfile.specs.Bytes.{value, written, number_at, Bytes}
 -- AS STD READS THEM
 
 -- bytes that are not there count as 0
-pub four_read : (bs : List ℕ) → from_le_bytes w32 bs ≡ value (take 4 bs)
+four_read : (bs : List ℕ) → from_le_bytes w32 bs ≡ value (take 4 bs)
 four_read [] = omega arith
 four_read (a ∷ []) = omega arith
 four_read (a ∷ b ∷ []) = omega arith
@@ -28,9 +29,24 @@ eight_read (a ∷ b ∷ c ∷ d ∷ e ∷ f ∷ []) = omega arith
 eight_read (a ∷ b ∷ c ∷ d ∷ e ∷ f ∷ g ∷ []) = omega arith
 eight_read (a ∷ b ∷ c ∷ d ∷ e ∷ f ∷ g ∷ h ∷ bs) = omega arith
 
--- the last of three words of 64 bits
-pub third_read : (bs : List ℕ) (words : List (List ℕ)) → words ≡ first_chunks 8 3 bs → from_le_bytes w64 (get_or words 2 []) ≡ number_at 16 8 bs
-third_read bs words e = ap (λ (ws : List (List ℕ)). from_le_bytes w64 (get_or ws 2 [])) e ∙ eight_read (take 8 (drop 8 (drop 8 bs))) ∙ ap value (rw (take-take 8 8 (drop 8 (drop 8 bs)) (omega arith), drop-drop 8 8 bs))
+-- the i-th of k pieces
+piece : (n k i : ℕ) (bs : List ℕ) → i < k → get_or (first_chunks n k bs) i [] ≡ take n (drop (n * i) bs)
+piece n zero i bs l = absurd (omega arith)
+piece n (suc k) zero bs l =
+    let none : 0 ≡ n * 0 = omega arith in
+    ap (λ (j : ℕ). take n (drop j bs)) none
+piece n (suc k) (suc i) bs l =
+    let more : n + n * i ≡ n * suc i = omega (arith, mul-suc n i) in
+    piece n k i (drop n bs) (omega arith) ∙ ap (take n) (drop-drop (n * i) n bs ∙ ap (λ (j : ℕ). drop j bs) more)
+
+-- a number of 32 bits, and one of 64, in the i-th of k pieces
+pub four_at : (k i : ℕ) (bs : List ℕ) (ps : List (List ℕ)) → ps ≡ first_chunks 4 k bs → i < k → from_le_bytes w32 (get_or ps i []) ≡ number_at (4 * i) 4 bs
+four_at k i bs ps e l =
+    ap (λ (xs : List ℕ). from_le_bytes w32 xs) (ap (λ (qs : List (List ℕ)). get_or qs i []) e ∙ piece 4 k i bs l) ∙ four_read (take 4 (drop (4 * i) bs)) ∙ ap value (take-take 4 4 (drop (4 * i) bs) (omega arith))
+
+pub eight_at : (k i : ℕ) (bs : List ℕ) (ps : List (List ℕ)) → ps ≡ first_chunks 8 k bs → i < k → from_le_bytes w64 (get_or ps i []) ≡ number_at (8 * i) 8 bs
+eight_at k i bs ps e l =
+    ap (λ (xs : List ℕ). from_le_bytes w64 xs) (ap (λ (qs : List (List ℕ)). get_or qs i []) e ∙ piece 8 k i bs l) ∙ eight_read (take 8 (drop (8 * i) bs)) ∙ ap value (take-take 8 8 (drop (8 * i) bs) (omega arith))
 
 -- WHAT IS WRITTEN IS READ BACK
 
