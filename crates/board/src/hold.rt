@@ -94,10 +94,7 @@ impl<'m, L: Units> Board<'m, L> {
             start,
             end,
             claim,
-            token: HoldToken {
-                number,
-                spent: false,
-            },
+            token: HoldToken { number },
         }
     }
 

@@ -38,14 +38,13 @@ fn wrong_state(event: Event) -> Refusal
     }
 }
 
-// Spends the token where its booking was moved, and hands it back where that was refused.
+// Takes the token in where its booking was moved, and hands it back where that was refused.
 fn spend(token: HoldToken, moved: Result<(), Refusal>) -> Result<(), HoldToken>
     ensures { result ≡ handed token moved }
 {
-    let mut token = token;
     match moved {
         Ok(()) => {
-            token.spent = true;
+            let HoldToken { number: _ } = token;
             Ok(())
         }
         Err(_) => Err(token),
