@@ -18,10 +18,7 @@ use units::kind::Units;
 fn is_held(state: State) -> bool
     ensures { result ≡ is_held state }
 {
-    match state {
-        State::Held => true,
-        State::Blank | State::Confirmed | State::UnderWay => false,
-    }
+    matches!(state, State::Held)
 }
 
 // Is some booking held?
