@@ -36,9 +36,9 @@ done_by event (becomes s) = Ok tt
 done_by event leaves = Ok tt
 done_by event barred = Err (wrong_state event)
 
--- a booking under its number, with its token
+-- a booking under its number, with its token, not yet spent
 abbrev pub grant_of : {L : Type 0} → ℕ → Booking L → Grant L
-grant_of n x = record { number = n; start = x.start; end = x.end; claim = x.claim; token = record { number = n } }
+grant_of n x = record { number = n; start = x.start; end = x.end; claim = x.claim; token = record { number = n; spent = false } }
 
 -- the grant, or the refusal
 abbrev pub hold_result : {L : Type 0} → Answer L → Result (Grant L) Refusal

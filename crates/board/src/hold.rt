@@ -94,7 +94,10 @@ impl<'m, L: Units> Board<'m, L> {
             start,
             end,
             claim,
-            token: HoldToken { number },
+            token: HoldToken {
+                number,
+                spent: false,
+            },
         }
     }
 

@@ -38,13 +38,14 @@ fn wrong_state(event: Event) -> Refusal
     }
 }
 
-// Takes the token in where its booking was moved, and hands it back where that was refused.
+// Spends the token where its booking was moved, and hands it back where that was refused.
 fn spend(token: HoldToken, moved: Result<(), Refusal>) -> Result<(), HoldToken>
     ensures { result ≡ handed token moved }
 {
+    let mut token = token;
     match moved {
         Ok(()) => {
-            let HoldToken { number: _ } = token;
+            token.spent = true;
             Ok(())
         }
         Err(_) => Err(token),

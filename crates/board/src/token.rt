@@ -1,9 +1,20 @@
-// The token of a hold. It has no `Drop`, so it has to go back to a board, which confirms or releases its booking.
-ghost use Rattle.std.specs.Prelude.{◌≡◌};
+// The token of a hold: it must be confirmed or released before it goes out of use.
+ghost use Rattle.std.specs.Prelude.{◌≡◌, true};
 
-#[must_use]
 pub struct HoldToken {
     pub(crate) number: u32,
+    pub(crate) spent: bool,
+}
+
+impl Drop for HoldToken {
+    fn drop(self)
+        requires { self.spent ≡ true }
+    {
+        let HoldToken {
+            number: _,
+            spent: _,
+        } = self;
+    }
 }
 
 impl HoldToken {
