@@ -1,5 +1,5 @@
 -- A board with one row more, with one row's state changed, with one row taken out, and with all taken out. Assumes nothing.
-use Rattle.std.proofs.Common.{◌≡◌, ℕ, ◌+◌, ◌*◌, ◌<◌, ◌≤◌, Bool, List, [], ◌∷◌, ◌++◌, length, nat_lt, get_or, set, take, drop, Some, None, Option, Result, is_ok, if◌then◌else◌, Decides, sym, refl, ap, ◌∙◌, subst, add-one, arith}
+use Rattle.std.proofs.Common.{◌≡◌, ℕ, ◌+◌, ◌*◌, ◌<◌, ◌≤◌, Bool, List, [], ◌∷◌, ◌++◌, length, nat_lt, get_or, set, take, drop, Some, Result, is_ok, if◌then◌else◌, Decides, sym, ap, ◌∙◌, subst, add-one, arith}
 use Rattle.std.proofs.lemmas.Bool.{lt-ltb}
 use Rattle.std.proofs.lemmas.List.{set_split}
 use Rattle.std.proofs.lemmas.List.Edits.{insert_end}
@@ -8,7 +8,6 @@ use Rattle.std.specs.declared.cmp.PartialEq as equality
 use Rattle.lent.specs.Lists.{items, Refilled}
 use Rattle.lent.specs.declared.lent.Lent.{Lent}
 use Rattle.lent.specs.declared.lent.NoRoom.{NoRoom}
-use Rattle.lent.proofs.Refills.{kept}
 use Rattle.slots.specs.SlotLists.{records, change_answer, Rewritten}
 use Rattle.slots.specs.Stepped.{edited}
 use Rattle.slots.specs.Steps.{lacks}
@@ -18,7 +17,6 @@ use Rattle.units.specs.Kinds.{Kind, Lawful}
 use Rattle.units.specs.declared.kind.Units as units
 use Rattle.bookings.specs.Bookings.{FitsBeside}
 use Rattle.bookings.specs.Rows.{bookings, numbered, replaced, row_of}
-use Rattle.bookings.specs.declared.booking.Booking.{Booking}
 use Rattle.bookings.specs.declared.row.Row.{Row}
 use Rattle.bookings.specs.declared.row.State.{State}
 use Rattle.bookings.specs.declared.row.State.TheVariants.{Blank}

@@ -1,5 +1,5 @@
 -- A new board, from the numbers that are 0 where they are refused. Assumes nothing.
-use Rattle.std.proofs.Common.{◌≡◌, ℕ, ◌*◌, ◌≤◌, List, [], Some, None, Option, Ok, Err, Result, is_ok, Bool, true, false, cond, length, sym, refl, ap, ◌∙◌, subst, arith}
+use Rattle.std.proofs.Common.{◌≡◌, ℕ, ◌*◌, ◌≤◌, Some, None, Option, Ok, Err, Result, is_ok, true, false, cond, sym, refl, ap, ◌∙◌, arith}
 use Rattle.units.specs.Kinds.{Kind}
 use Rattle.bookings.specs.declared.refusal.Refusal.{Refusal}
 use Rattle.board.specs.Calls.{Holding, set_up_check, opened, made}

@@ -1,5 +1,5 @@
 -- A board's slot list after a change over a span for which there is room. Assumes nothing.
-use Rattle.std.proofs.Common.{◌≡◌, ℕ, ◌+◌, ◌<◌, ◌≤◌, Bool, ltb, leb, List, length, Ok, Err, Result, is_ok, if◌then◌else◌, Decides, cond, sym, refl, ap, subst, ◌∙◌}
+use Rattle.std.proofs.Common.{◌≡◌, ℕ, ◌+◌, ◌<◌, ◌≤◌, Bool, ltb, leb, length, Ok, Result, is_ok, if◌then◌else◌, Decides, refl, ap, subst, ◌∙◌}
 use Rattle.std.proofs.lemmas.Bool.{le-leb, lt-ltb, cond-true}
 use Rattle.lent.proofs.Refills.{kept}
 use Rattle.slots.specs.Stepped.{edited}

@@ -3,7 +3,7 @@ ghost use Rattle.std.specs.Prelude.{◌≡◌, Ok};
 ghost use Rattle.units.specs.Crews.{crew_kind};
 ghost use Rattle.board.specs.Calls.{given, move, hold, answer, after};
 ghost use Rattle.board.specs.Results.{Takes};
-ghost use Rattle.board.specs.Views.{holding};
+ghost use Rattle.board.specs.Views.{holding, SameMemory};
 ghost use Rattle.planning.specs.Rules.{earliest_start};
 ghost use Rattle.sheet.specs.Items.{content_of};
 ghost use Rattle.dispatch.specs.Running.{settling, hold_reply, hold_leaves, move_reply, answered, after_line, ordered, after_order};
@@ -24,7 +24,7 @@ fn settle(board: &mut Board<'_, Crew>, grant: Grant<Crew>, welcome: u32) -> Answ
     requires { Takes crew_kind (holding board.old) (Ok grant) }
     ensures answer { result ≡ hold_reply welcome (given grant.number (booking_in grant)) }
     ensures board { holding board.new ≡ after crew_kind (holding board.old) (move (settling welcome (booking_in grant)) grant.number) }
-    ensures lent { (board.new.rows.rows.ghost_name ≡ board.old.rows.rows.ghost_name) × (board.new.slots.slots.ghost_name ≡ board.old.slots.slots.ghost_name) }
+    ensures memory { SameMemory board.old board.new }
 {
     let Grant {
         number,
@@ -50,7 +50,7 @@ fn settle(board: &mut Board<'_, Crew>, grant: Grant<Crew>, welcome: u32) -> Answ
 fn held(board: &mut Board<'_, Crew>, request: Request, welcome: u32) -> Result<Answer, Refusal>
     ensures answer { told result ≡ hold_reply welcome (answer crew_kind (holding board.old) (hold request earliest_start)) }
     ensures board { holding board.new ≡ hold_leaves welcome (after crew_kind (holding board.old) (hold request earliest_start)) (answer crew_kind (holding board.old) (hold request earliest_start)) }
-    ensures lent { (board.new.rows.rows.ghost_name ≡ board.old.rows.rows.ghost_name) × (board.new.slots.slots.ghost_name ≡ board.old.slots.slots.ghost_name) }
+    ensures memory { SameMemory board.old board.new }
 {
     let grant = board.hold(request, &EARLIEST_START)?;
     Ok(settle(board, grant, welcome))
@@ -60,7 +60,7 @@ fn held(board: &mut Board<'_, Crew>, request: Request, welcome: u32) -> Result<A
 fn obey(board: &mut Board<'_, Crew>, order: Order) -> Result<Answer, Refusal>
     ensures answer { told result ≡ ordered (holding board.old) order }
     ensures board { holding board.new ≡ after_order (holding board.old) order }
-    ensures lent { (board.new.rows.rows.ghost_name ≡ board.old.rows.rows.ghost_name) × (board.new.slots.slots.ghost_name ≡ board.old.slots.slots.ghost_name) }
+    ensures memory { SameMemory board.old board.new }
 {
     match order {
         Order::Hold {
@@ -89,7 +89,7 @@ fn obey(board: &mut Board<'_, Crew>, order: Order) -> Result<Answer, Refusal>
 pub fn run_line(board: &mut Board<'_, Crew>, item: Item<'_>) -> Answer
     ensures answer { result ≡ answered (holding board.old) (content_of item.entry) }
     ensures board { holding board.new ≡ after_line (holding board.old) (content_of item.entry) }
-    ensures lent { (board.new.rows.rows.ghost_name ≡ board.old.rows.rows.ghost_name) × (board.new.slots.slots.ghost_name ≡ board.old.slots.slots.ghost_name) }
+    ensures memory { SameMemory board.old board.new }
 {
     match item {
         Item::Entry(_, order) => obey(board, order).unwrap_or_else(Answer::Refused),

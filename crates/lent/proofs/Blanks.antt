@@ -48,11 +48,3 @@ module _ {X : Type 0} (blank : X) where
         let sum : (n - length xs) + (room - n) ≡ room - length xs = omega arith in
         ap (λ (ys : List X). xs ++ (replicate (n - length xs) blank ++ ys)) (behind n u k)
         ∙ ap (λ (ys : List X). xs ++ ys) (sym (append_assoc (replicate (n - length xs) blank) (replicate (room - n) blank) (drop room memory)) ∙ ap (λ (ys : List X). ys ++ drop room memory) (replicate-append-replicate (n - length xs) (room - n) blank ∙ ap (λ (i : ℕ). replicate i blank) sum))
-
--- what is taken stops at the end
-pub take_within : {X : Type 0} (n : ℕ) (xs : List X) → take (min n (length xs)) xs ≡ take n xs
-take_within n xs =
-    elim (cases_lt n (length xs)) [
-      | inl l ↦ let e : min n (length xs) ≡ n = omega arith in ap (λ (k : ℕ). take k xs) e
-      | inr l ↦ let e : min n (length xs) ≡ length xs = omega arith in ap (λ (k : ℕ). take k xs) e ∙ take_all (length xs) xs (omega arith) ∙ sym (take_all n xs l)
-    ]

@@ -107,9 +107,6 @@ module _ {T : Type 0} (was is : Lent T) (xs : List T) (r : Refilled was xs is) w
   pub few_enough : length xs ≤ was.room
   few_enough = omega (arith, is.laid_out.used_fits, r.used_is, r.room_is)
 
-  pub as_long : length is.memory.now ≡ length was.memory.now
-  as_long = ap length r.memory_is ∙ laid_length was.blank was.room xs was.memory.now few_enough was.laid_out.room_fits
-
   pub behind_same : drop is.room is.memory.now ≡ drop was.room was.memory.now
   behind_same =
       let own = xs ++ replicate (was.room - length xs) was.blank in

@@ -20,9 +20,12 @@ impl<'a> Item<'a> {
         ensures line { line_of result ≡ line.entry }
         ensures content { content_of result ≡ content line.entry.bytes.now }
     {
-        match line.bytes {
-            [] | [b'#', ..] => Item::Remark(line),
-            [letter, fields @ ..] => match Order::read(*letter, fields) {
+        let [letter, fields @ ..] = line.bytes else {
+            return Item::Remark(line);
+        };
+        match char::from(*letter) {
+            '#' => Item::Remark(line),
+            letter => match Order::read(letter, fields) {
                 Some(order) => Item::Entry(line, order),
                 None => Item::Bad(line),
             },

@@ -33,11 +33,11 @@ fn one(fields: &[u8]) -> Option<u32>
 
 impl Order {
     // The order that a letter makes of its numbers, where there are as many as it takes.
-    pub(crate) fn read(letter: u8, fields: &[u8]) -> Option<Order>
+    pub(crate) fn read(letter: char, fields: &[u8]) -> Option<Order>
         ensures { result ≡ order_of letter (numbers_of fields.now) }
     {
         match letter {
-            b'P' => {
+            'P' => {
                 let [ready, duration, deadline, wanted, welcome] = numbers::<5>(fields)?;
                 Some(Order::Hold {
                     ready,
@@ -47,10 +47,10 @@ impl Order {
                     welcome,
                 })
             }
-            b'C' => one(fields).map(Order::Cancel),
-            b'B' => one(fields).map(Order::Begin),
-            b'F' => one(fields).map(Order::Finish),
-            b'L' => {
+            'C' => one(fields).map(Order::Cancel),
+            'B' => one(fields).map(Order::Begin),
+            'F' => one(fields).map(Order::Finish),
+            'L' => {
                 let [] = numbers::<0>(fields)?;
                 Some(Order::List)
             }

@@ -48,25 +48,6 @@ fn no_row<L: Units>() -> Row<L> {
     row(0, 0, 0, L::nothing(), State::Blank)
 }
 
-fn slots_are<L: Units>(rt: &impl Abort, slots: &[Slot<L>], expected: &[Slot<L>]) {
-    assert_eq!(rt; slots.len(), expected.len());
-    for (slot, wanted) in slots.iter().zip(expected) {
-        assert_eq!(rt; slot.minute, wanted.minute);
-        assert!(rt; slot.value.same(wanted.value));
-    }
-}
-
-fn rows_are<L: Units>(rt: &impl Abort, rows: &[Row<L>], expected: &[Row<L>]) {
-    assert_eq!(rt; rows.len(), expected.len());
-    for (row, wanted) in rows.iter().zip(expected) {
-        assert_eq!(rt; row.number, wanted.number);
-        assert_eq!(rt; row.booking.start, wanted.booking.start);
-        assert_eq!(rt; row.booking.end, wanted.booking.end);
-        assert!(rt; row.booking.claim.same(wanted.booking.claim));
-        assert_eq!(rt; row.state, wanted.state);
-    }
-}
-
 // Books by the earliest start, and says what must be granted.
 fn book<L: Units>(
     rt: &impl Abort,
@@ -91,7 +72,7 @@ fn book<L: Units>(
         u64::from(end),
         u64::from(start) + u64::from(asked.duration)
     );
-    assert!(rt; taken.same(claim));
+    assert!(rt; taken == claim);
     Ok(())
 }
 
@@ -200,11 +181,7 @@ fn a_crew_of_four(rt: HostRuntime) -> Result<(), Fail> {
         5,
         Crew { mask: 12 },
     )?;
-    slots_are(
-        &rt,
-        board.slots(),
-        &[crew(0, 3), crew(5, 15), crew(10, 12), crew(15, 0)],
-    );
+    assert!(rt; board.slots() == [crew(0, 3), crew(5, 15), crew(10, 12), crew(15, 0)].as_slice());
     assert_eq!(rt;
         start(&mut board, request(0, 10, 19, 2), &EARLIEST_START),
         Err(9)
@@ -217,24 +194,16 @@ fn a_crew_of_four(rt: HostRuntime) -> Result<(), Fail> {
         10,
         Crew { mask: 3 },
     )?;
-    slots_are(
-        &rt,
-        board.slots(),
-        &[crew(0, 3), crew(5, 15), crew(15, 3), crew(20, 0)],
-    );
+    assert!(rt; board.slots() == [crew(0, 3), crew(5, 15), crew(15, 3), crew(20, 0)].as_slice());
     assert_eq!(rt; board.cancel(1), Ok(()));
-    slots_are(
-        &rt,
-        board.slots(),
-        &[crew(5, 12), crew(10, 15), crew(15, 3), crew(20, 0)],
-    );
-    rows_are(
-        &rt,
-        board.rows(),
-        &[
-            row(2, 5, 15, Crew { mask: 12 }, State::Confirmed),
-            row(3, 10, 20, Crew { mask: 3 }, State::Confirmed),
-        ],
+    assert!(rt; board.slots() == [crew(5, 12), crew(10, 15), crew(15, 3), crew(20, 0)].as_slice());
+    assert!(rt;
+        board.rows()
+            == [
+                row(2, 5, 15, Crew { mask: 12 }, State::Confirmed),
+                row(3, 10, 20, Crew { mask: 3 }, State::Confirmed),
+            ]
+            .as_slice()
     );
     Ok(())
 }
@@ -296,7 +265,7 @@ fn a_stock_of_three(rt: HostRuntime) -> Result<(), Fail> {
         10,
         Stock { count: 2 },
     )?;
-    slots_are(&rt, board.slots(), &[stock(0, 2), stock(20, 0)]);
+    assert!(rt; board.slots() == [stock(0, 2), stock(20, 0)].as_slice());
     Ok(())
 }
 
@@ -343,25 +312,28 @@ fn seven_policies_and_the_earliest_of_equals(rt: HostRuntime) -> Result<(), Fail
 
 #[test]
 fn setting_up(rt: HostRuntime) {
-    assert!(rt; set_up_check::<Crew>(64, 1_048_576, 256, 512).is_none());
-    assert!(rt; set_up_check::<Stock>(4_095, 1, 1, 2).is_none());
-    assert_eq!(rt; set_up_check::<Crew>(0, 0, 0, 0).map_or(0, u32::from), 1);
-    assert_eq!(rt; set_up_check::<Crew>(65, 1, 1, 2).map_or(0, u32::from), 1);
+    assert!(rt; set_up_check::<Crew>(64, 1_048_576, 256, 512).is_ok());
+    assert!(rt; set_up_check::<Stock>(4_095, 1, 1, 2).is_ok());
+    assert_eq!(rt; set_up_check::<Crew>(0, 0, 0, 0).map_err(u32::from), Err(1));
     assert_eq!(rt;
-        set_up_check::<Stock>(4_096, 1, 1, 2).map_or(0, u32::from),
-        1
+        set_up_check::<Crew>(65, 1, 1, 2).map_err(u32::from),
+        Err(1)
     );
-    assert_eq!(rt; set_up_check::<Crew>(1, 0, 0, 0).map_or(0, u32::from), 2);
     assert_eq!(rt;
-        set_up_check::<Crew>(1, 1_048_577, 1, 2).map_or(0, u32::from),
-        2
+        set_up_check::<Stock>(4_096, 1, 1, 2).map_err(u32::from),
+        Err(1)
     );
-    assert_eq!(rt; set_up_check::<Crew>(1, 1, 0, 2).map_or(0, u32::from), 3);
+    assert_eq!(rt; set_up_check::<Crew>(1, 0, 0, 0).map_err(u32::from), Err(2));
     assert_eq!(rt;
-        set_up_check::<Crew>(1, 1, 257, 1_000).map_or(0, u32::from),
-        3
+        set_up_check::<Crew>(1, 1_048_577, 1, 2).map_err(u32::from),
+        Err(2)
     );
-    assert_eq!(rt; set_up_check::<Crew>(1, 1, 2, 3).map_or(0, u32::from), 3);
+    assert_eq!(rt; set_up_check::<Crew>(1, 1, 0, 2).map_err(u32::from), Err(3));
+    assert_eq!(rt;
+        set_up_check::<Crew>(1, 1, 257, 1_000).map_err(u32::from),
+        Err(3)
+    );
+    assert_eq!(rt; set_up_check::<Crew>(1, 1, 2, 3).map_err(u32::from), Err(3));
 }
 
 // Its memory is as it was, and every hold is refused.
@@ -385,12 +357,8 @@ fn a_closed_board(rt: HostRuntime) {
     );
     assert_eq!(rt; board.cancel(7).map_err(u32::from), Err(11));
     let (rows, slots) = board.close();
-    rows_are(&rt, rows, &[old, old]);
-    slots_are(
-        &rt,
-        slots,
-        &[crew(5, 6), crew(5, 6), crew(5, 6), crew(5, 6)],
-    );
+    assert!(rt; &*rows == [old, old].as_slice());
+    assert!(rt; &*slots == [crew(5, 6), crew(5, 6), crew(5, 6), crew(5, 6)].as_slice());
 }
 
 // The rows and the list, blanks behind them, and the records beyond twice the rows as they were.
@@ -423,22 +391,20 @@ fn memory_handed_back(rt: HostRuntime) -> Result<(), Fail> {
     assert_eq!(rt; board.cancel(1), Ok(()));
     assert_eq!(rt; board.next_number(), 3);
     let (rows, slots) = board.close();
-    rows_are(
-        &rt,
-        rows,
-        &[row(2, 0, 20, Crew { mask: 14 }, State::Confirmed), no_row()],
+    assert!(rt;
+        &*rows == [row(2, 0, 20, Crew { mask: 14 }, State::Confirmed), no_row()].as_slice()
     );
-    slots_are(
-        &rt,
-        slots,
-        &[
-            crew(0, 14),
-            crew(20, 0),
-            crew(0, 0),
-            crew(0, 0),
-            crew(5, 6),
-            crew(5, 6),
-        ],
+    assert!(rt;
+        &*slots
+            == [
+                crew(0, 14),
+                crew(20, 0),
+                crew(0, 0),
+                crew(0, 0),
+                crew(5, 6),
+                crew(5, 6),
+            ]
+            .as_slice()
     );
     Ok(())
 }
@@ -494,13 +460,13 @@ fn a_crew_of_64_to_the_last_minute(rt: HostRuntime) -> Result<(), Fail> {
         0,
         all,
     )?;
-    slots_are(&rt, board.slots(), &[crew(0, u64::MAX), crew(1_048_576, 0)]);
+    assert!(rt; board.slots() == [crew(0, u64::MAX), crew(1_048_576, 0)].as_slice());
     assert_eq!(rt;
         start(&mut board, request(0, 1, 1_048_576, 1), &EARLIEST_START),
         Err(9)
     );
     assert_eq!(rt; board.cancel(1), Ok(()));
-    slots_are(&rt, board.slots(), &[]);
+    assert!(rt; board.slots() == [].as_slice());
     book(
         &rt,
         &mut board,
@@ -519,14 +485,14 @@ fn a_crew_of_64_to_the_last_minute(rt: HostRuntime) -> Result<(), Fail> {
         1_048_574,
         Crew { mask: 1 << 63 },
     )?;
-    slots_are(
-        &rt,
-        board.slots(),
-        &[
-            crew(1_048_574, 1 << 63),
-            crew(1_048_575, u64::MAX),
-            crew(1_048_576, 0),
-        ],
+    assert!(rt;
+        board.slots()
+            == [
+                crew(1_048_574, 1 << 63),
+                crew(1_048_575, u64::MAX),
+                crew(1_048_576, 0),
+            ]
+            .as_slice()
     );
     Ok(())
 }
@@ -573,26 +539,20 @@ fn moves_by_number(rt: HostRuntime) -> Result<(), Fail> {
         10,
         Crew { mask: 240 },
     )?;
-    slots_are(
-        &rt,
-        board.slots(),
-        &[crew(0, 15), crew(10, 255), crew(20, 15), crew(30, 0)],
+    assert!(rt;
+        board.slots() == [crew(0, 15), crew(10, 255), crew(20, 15), crew(30, 0)].as_slice()
     );
     assert_eq!(rt; board.finish(1).map_err(u32::from), Err(12));
     assert_eq!(rt; board.begin(2), Ok(()));
     assert_eq!(rt; board.begin(2).map_err(u32::from), Err(12));
     assert_eq!(rt; board.cancel(2).map_err(u32::from), Err(12));
     assert_eq!(rt; board.cancel(1), Ok(()));
-    slots_are(&rt, board.slots(), &[crew(10, 240), crew(20, 0)]);
-    rows_are(
-        &rt,
-        board.rows(),
-        &[row(2, 10, 20, Crew { mask: 240 }, State::UnderWay)],
-    );
+    assert!(rt; board.slots() == [crew(10, 240), crew(20, 0)].as_slice());
+    assert!(rt; board.rows() == [row(2, 10, 20, Crew { mask: 240 }, State::UnderWay)].as_slice());
     assert_eq!(rt; board.cancel(1).map_err(u32::from), Err(11));
     assert_eq!(rt; board.finish(2), Ok(()));
     assert_eq!(rt; board.finish(2).map_err(u32::from), Err(11));
-    slots_are(&rt, board.slots(), &[]);
+    assert!(rt; board.slots() == [].as_slice());
     Ok(())
 }
 
@@ -622,11 +582,7 @@ fn a_token_on_another_board(rt: HostRuntime) -> Result<(), Fail> {
         Stock { count: 3 },
     )?;
     handed_back(&rt, &mut board, &mut other, request(0, 20, 20, 4))?;
-    slots_are(
-        &rt,
-        board.slots(),
-        &[stock(0, 5), stock(10, 4), stock(20, 0)],
-    );
-    slots_are(&rt, other.slots(), &[stock(0, 5), stock(10, 0)]);
+    assert!(rt; board.slots() == [stock(0, 5), stock(10, 4), stock(20, 0)].as_slice());
+    assert!(rt; other.slots() == [stock(0, 5), stock(10, 0)].as_slice());
     Ok(())
 }

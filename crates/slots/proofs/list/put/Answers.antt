@@ -1,10 +1,8 @@
-use Rattle.std.proofs.Common.{◌≡◌, ◌+◌, ◌<◌, ◌≤◌, true, cond, [], ◌∷◌, length, sym, refl, ap, subst, ◌∙◌, arith}
-use Rattle.std.proofs.lemmas.Bool.{lt-ltb}
+use Rattle.std.proofs.Common.{ap, ◌∙◌}
 use Rattle.std.proofs.lemmas.List.{take-append-drop}
-use Rattle.std.specs.List.{insert}
-use Rattle.lent.specs.Lists.{items, Refilled}
+use Rattle.lent.specs.Lists.{items}
 use Rattle.lent.proofs.Refills.{as_it_was}
-use Rattle.slots.specs.Steps.{put_in, put_of, at_most_one}
+use Rattle.slots.specs.Steps.{put_in, at_most_one}
 use Rattle.slots.proofs.list.put.Goals as goal
 
 pub returns-in_default : goal.returns-in_default

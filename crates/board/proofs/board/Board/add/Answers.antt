@@ -1,4 +1,4 @@
-use Rattle.std.proofs.Common.{length, ap, ◌∙◌}
+use Rattle.std.proofs.Common.{length, ap}
 use Rattle.board.proofs.Booked.{added}
 use Rattle.board.proofs.board.Board.add.Goals as goal
 

@@ -1,4 +1,4 @@
-use Rattle.std.proofs.Common.{◌≡◌, ℕ, ◌*◌, length, [], sym, refl, ap, ap₂, subst, ◌∙◌, arith}
+use Rattle.std.proofs.Common.{◌≡◌, ℕ, length, [], sym, ap, ap₂, subst, ◌∙◌, arith}
 use Rattle.lent.specs.Lists.{items}
 use Rattle.lent.specs.Memory.{laid}
 use Rattle.slots.specs.SlotLists.{records}

@@ -1,4 +1,4 @@
-use Rattle.std.proofs.Common.{◌≡◌, List, get_or, sym, ap, ◌∙◌}
+use Rattle.std.proofs.Common.{List, get_or, sym, ap, ◌∙◌}
 use Rattle.bookings.proofs.Found.{some_is}
 use Rattle.bookings.specs.declared.row.Row.{Row}
 use Rattle.board.specs.Calls.{without_row}

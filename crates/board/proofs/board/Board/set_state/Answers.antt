@@ -1,5 +1,4 @@
-use Rattle.std.proofs.Common.{◌≡◌, List, get_or, set, sym, ap, subst, ◌∙◌}
-use Rattle.lent.specs.Lists.{Refilled}
+use Rattle.std.proofs.Common.{List, get_or, sym, ap, ◌∙◌}
 use Rattle.bookings.proofs.Found.{some_is}
 use Rattle.bookings.specs.declared.row.Row.{Row}
 use Rattle.board.specs.Calls.{with_state}

@@ -1,4 +1,4 @@
-use Rattle.std.proofs.Common.{ℕ, map, Ok, Err, sym, refl, ap, subst, ◌∙◌, arith}
+use Rattle.std.proofs.Common.{ℕ, map, Ok, Err, sym, ap, subst, ◌∙◌, arith}
 use Rattle.std.proofs.lemmas.Result.{err_from_is_err_and}
 use Rattle.boardfile.specs.Files.{row_in}
 use Rattle.board.specs.Adding.{emptied}
