@@ -12,6 +12,7 @@ use slots::list::SlotList;
 use std::marker::PhantomData;
 use units::kind::Units;
 
+// Stays: that a call leaves a board in the same memory ties two boards, so each call's clause says it, and no field can.
 #[derive(Drop)]
 pub struct Board<'m, L: Units> {
     pub(crate) capacity: u32,

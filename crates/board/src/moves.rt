@@ -18,6 +18,7 @@ use bookings::row::{Row, State};
 use slots::span::Span;
 use units::kind::Units;
 
+// Stays: this and the next are two lists of the rules, each by its own name; one of both would hide which is meant.
 // The refusal where there is no row of that number.
 fn no_row(event: Event) -> Refusal
     ensures { result ≡ no_row event }
@@ -117,6 +118,7 @@ impl<'m, L: Units> Board<'m, L> {
         }
     }
 
+    // Stays: the five calls have their names and promises, by the rules; `moved` is the one function under them.
     // The held booking of the token is confirmed; a token whose booking is not held here is handed back.
     pub fn confirm(&mut self, token: HoldToken) -> Result<(), HoldToken>
         ensures answer { result ≡ token_result token (answer L.kind (holding self.old) (move Event.Confirm token.number)) }

@@ -58,6 +58,7 @@ pub fn blank_row<L: Copy>(nothing: L) -> Row<L>
 }
 
 impl<'m, L: Units> Board<'m, L> {
+    // Stays: making can't fail, by the rules: where the numbers are refused there is a closed board, known by its capacity 0.
     // A board with no bookings over lent memory: open, or closed where the numbers are refused, which leaves the memory as it is.
     pub fn make(
         capacity: u32,

@@ -1,4 +1,5 @@
 // What is shown of every board: each function's contract is a theorem, for every kind.
+// Stays: a theorem is asked for by the contract of a function of its own.
 ghost use Rattle.board.specs.FileTheorems.{LoadsKeep, LoadsLeave, SavedLoads, AcceptedIsSaved};
 ghost use Rattle.board.specs.Theorems.{CallsKeep, StayPut};
 

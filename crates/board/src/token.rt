@@ -1,3 +1,4 @@
+// Stays: the flag is what the drop of a token that was let go would have to show; so the prover refuses it, by a rule of the project.
 // The token of a hold: it must be confirmed or released before it goes out of use.
 ghost use Rattle.std.specs.Prelude.{◌≡◌, true};
 

@@ -11,7 +11,7 @@ impl<L: Copy> Booking<L> {
     pub fn stands_at(&self, minute: u32) -> bool
         ensures { result ≡ stands self.now minute }
     {
-        self.start <= minute && minute < self.end
+        (self.start..self.end).contains(&minute)
     }
 }
 

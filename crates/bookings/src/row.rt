@@ -3,6 +3,7 @@ ghost use Rattle.bookings.specs.States.{state_number, state_of};
 
 use crate::booking::Booking;
 
+// Stays: lent memory has rows where no booking stands, and files number the states, so blank is one of them and no `None`.
 // What a row's booking has come to; a row that holds none is blank. Files know each state by its number.
 #[derive(Clone, Copy, PartialEq, Eq, Debug)]
 pub enum State {

@@ -1,4 +1,5 @@
 // What is shown of bookings and their slot list: each function's contract is a theorem, for every kind.
+// Stays: a theorem is asked for by the contract of a function of its own.
 ghost use Rattle.bookings.specs.Theorems.{OrderIsFree, SlotsOfClaims, RowsInAnyOrder, UnitsConserved, SlotsRight, SlotsOnly, RemovalSound, AdditionSound, SlotsFew, SlotsAfterAdding, SlotsAfterRemoving, GrantRight};
 
 pub fn order_is_free<L>()

@@ -1,7 +1,6 @@
 -- Memory that holds a list and then blanks. Assumes nothing.
-use Rattle.std.proofs.Common.{◌≡◌, ℕ, ◌+◌, ◌-◌, ◌≤◌, min, List, ◌++◌, length, take, drop, replicate, sym, refl, ap, ◌∙◌, inl, inr, arith}
-use Rattle.std.proofs.lemmas.List.{append_assoc, length-append, length-take, length-drop, length-replicate, take_at, drop_at, drop-drop, take-append-drop, drop-append-le, drop-replicate, replicate-append-replicate, take_all}
-use Rattle.std.proofs.lemmas.Bool.{cases_lt}
+use Rattle.std.proofs.Common.{◌≡◌, ℕ, ◌+◌, ◌-◌, ◌≤◌, List, ◌++◌, length, take, drop, replicate, sym, refl, ap, ◌∙◌, arith}
+use Rattle.std.proofs.lemmas.List.{append_assoc, length-append, length-take, length-drop, length-replicate, take_at, drop_at, drop-drop, take-append-drop, drop-append-le, drop-replicate, replicate-append-replicate}
 use Rattle.lent.specs.Memory.{Laid, laid}
 
 module _ {X : Type 0} (blank : X) where

@@ -7,7 +7,7 @@ use Rattle.std.specs.List.{insert, remove}
 use Rattle.lent.specs.Memory.{Laid, laid}
 use Rattle.lent.specs.Lists.{items, Refilled}
 use Rattle.lent.specs.declared.lent.Lent.{Lent}
-use Rattle.lent.proofs.Blanks.{laid_is, laid_holds, laid_length, laid_now, laid_over}
+use Rattle.lent.proofs.Blanks.{laid_is, laid_holds, laid_now, laid_over}
 
 module _ {T : Type 0} (was : Lent T) where
   abbrev memory : List T

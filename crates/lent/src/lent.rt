@@ -6,6 +6,7 @@ ghost use Rattle.lent.specs.Sifting.{sifted};
 use crate::moves::{close_at, fill, open_at, sift_from};
 use crate::sieve::Sieve;
 
+// Stays: the board has no heap, so its lists lie in memory that its caller lends, with their lengths beside it.
 // A list in lent memory: the first `used` elements are its items, blanks stand behind them up to its room, and what lies beyond is not the list's.
 #[derive(Drop)]
 pub struct Lent<'m, T> {

@@ -35,6 +35,7 @@ pub(crate) fn close_at<T: Copy>(xs: &mut [T], i: usize, x: T)
     part[last] = x;
 }
 
+// Stays: what is left is written into the slice that is read, so no iterator can lend it; the library has no such method of a slice.
 // Passes those from `from` on through the sieve, puts what it leaves one behind the other, and says how many there are then in all.
 pub(crate) fn sift_from<T: Copy, S: Sieve<T>>(xs: &mut [T], from: usize, sieve: &mut S) -> usize
     requires { from ≤ length xs.old }

@@ -1,6 +1,7 @@
 //! The promise over whole lines of calls: each function's contract is a theorem.
 #![tactic(auto)]
 
+// Stays: a theorem is asked for by the contract of a function of its own.
 ghost use Rattle.lines.specs.FiledLines.{FiledLine, Begins};
 ghost use Rattle.lines.specs.FiledPromise.{FiledPromise, FiledLinesPromise};
 ghost use Rattle.lines.specs.Lines.{Line};

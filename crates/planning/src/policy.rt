@@ -6,6 +6,7 @@ ghost use Rattle.planning.specs.Tries.{EarlierFirst};
 use crate::measure::{FreeUnits, Measure, Product, Start, Stretch};
 use crate::rectangle::Rectangle;
 
+// Stays: a closure in its place would ask of the caller that it may be called, and could not say that an earlier start goes first.
 // Which of two rectangles is preferred.
 pub trait Policy {
     ghost preference: { Self → Preference };

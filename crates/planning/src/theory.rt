@@ -1,4 +1,5 @@
 //! The theorems of the search: the contract of each function is one, over every kind.
+// Stays: a theorem is asked for by the contract of a function of its own.
 ghost use Rattle.std.specs.Prelude.{◌≡◌};
 ghost use Rattle.planning.specs.Rules.{earliest_start, fewest_free, most_free, shortest_stretch, longest_stretch, smallest_product, largest_product};
 ghost use Rattle.planning.specs.Theorems.{FreeFalls, ClaimExists, FitsIsClear, Startable, SearchComplete, SearchSound, RectangleLongest, ChoiceBest, ChoiceOnly, AnyOrder};

@@ -89,7 +89,8 @@ impl fmt::Display for Printed<'_> {
 }
 
 impl Answer {
-    // Appends the answer's text to `out`, or leaves `out` as it is where memory is short, which `write!` doesn't promise.
+    // Appends the answer's text to `out`, or leaves `out` as it is where memory is short.
+    // Stays: `write!` to the text would say nothing of it where memory is short.
     pub fn write_to(&self, slots: &[Slot<Crew>], out: &mut String) -> Result<(), AllocError>
         ensures { string_bytes out.new ≡ (if is_ok result then string_bytes out.old ++ text_of slots.now self.now else string_bytes out.old) }
     {

@@ -5,6 +5,7 @@ mod walk;
 
 pub use walk::items;
 
+// Stays: the reader holds the sheet and its place, by a rule of the project.
 // Goes over a sheet from line to line without copying it: the sheet, and the place of the next line.
 #[derive(Drop)]
 pub struct SheetReader<'a> {

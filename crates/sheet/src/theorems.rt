@@ -1,4 +1,5 @@
 // What is shown of sheets: each function's contract is a theorem, and the function does nothing.
+// Stays: a theorem is asked for by the contract of a function of its own.
 ghost use Rattle.sheet.specs.Orders.{OrdersAsWritten};
 ghost use Rattle.sheet.specs.Reading.{NoLineLost};
 

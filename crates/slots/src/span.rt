@@ -12,6 +12,6 @@ impl Span {
     pub fn holds(self, minute: u32) -> bool
         ensures { result ≡ within self.from self.until minute }
     {
-        self.from <= minute && minute < self.until
+        (self.from..self.until).contains(&minute)
     }
 }

@@ -76,6 +76,7 @@ fn book<L: Units>(
     Ok(())
 }
 
+// Stays: what is expected are the numbers that the rules give refusals.
 // The start that the policy chooses, or the number of the refusal: the booking is released at once.
 fn start<L: Units, P: Policy>(
     board: &mut Board<'_, L>,
