@@ -4,3 +4,5 @@
 pub mod lent;
 mod moves;
 pub mod sieve;
+#[cfg(test)]
+mod tests;

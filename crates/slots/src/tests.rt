@@ -44,7 +44,7 @@ fn slot(minute: u32, value: u8) -> Slot<u8> {
     Slot { minute, value }
 }
 
-fn put(list: &mut SlotList<'_, u8>, from: u32, until: u32, value: u8) -> Result<(), Unchanged> {
+fn set(list: &mut SlotList<'_, u8>, from: u32, until: u32, value: u8) -> Result<(), Unchanged> {
     list.change(Span { from, until }, &Put(value))
 }
 
@@ -52,8 +52,8 @@ fn put(list: &mut SlotList<'_, u8>, from: u32, until: u32, value: u8) -> Result<
 fn spans_may_begin_and_end_inside_records(rt: HostRuntime) {
     let mut memory = [OTHER; 8];
     let mut list = SlotList::new(&mut memory, 8, 0);
-    assert_eq!(rt; put(&mut list, 10, 30, 1), Ok(()));
-    assert_eq!(rt; put(&mut list, 40, 60, 2), Ok(()));
+    assert_eq!(rt; set(&mut list, 10, 30, 1), Ok(()));
+    assert_eq!(rt; set(&mut list, 40, 60, 2), Ok(()));
     assert!(rt; list.records() == [slot(10, 1), slot(30, 0), slot(40, 2), slot(60, 0)].as_slice());
     assert_eq!(rt;
         list.change(
@@ -84,11 +84,11 @@ fn spans_may_begin_and_end_inside_records(rt: HostRuntime) {
 fn repeats_are_dropped(rt: HostRuntime) {
     let mut memory = [OTHER; 6];
     let mut list = SlotList::new(&mut memory, 6, 0);
-    assert_eq!(rt; put(&mut list, 10, 20, 1), Ok(()));
-    assert_eq!(rt; put(&mut list, 30, 40, 1), Ok(()));
-    assert_eq!(rt; put(&mut list, 20, 30, 1), Ok(()));
+    assert_eq!(rt; set(&mut list, 10, 20, 1), Ok(()));
+    assert_eq!(rt; set(&mut list, 30, 40, 1), Ok(()));
+    assert_eq!(rt; set(&mut list, 20, 30, 1), Ok(()));
     assert!(rt; list.records() == [slot(10, 1), slot(40, 0)].as_slice());
-    assert_eq!(rt; put(&mut list, 0, 50, 0), Ok(()));
+    assert_eq!(rt; set(&mut list, 0, 50, 0), Ok(()));
     assert!(rt; list.records().is_empty());
 }
 
@@ -96,9 +96,9 @@ fn repeats_are_dropped(rt: HostRuntime) {
 fn spans_may_end_at_the_first_record_and_begin_after_the_last(rt: HostRuntime) {
     let mut memory = [OTHER; 6];
     let mut list = SlotList::new(&mut memory, 6, 0);
-    assert_eq!(rt; put(&mut list, 10, 20, 1), Ok(()));
-    assert_eq!(rt; put(&mut list, 5, 10, 2), Ok(()));
-    assert_eq!(rt; put(&mut list, 30, 40, 3), Ok(()));
+    assert_eq!(rt; set(&mut list, 10, 20, 1), Ok(()));
+    assert_eq!(rt; set(&mut list, 5, 10, 2), Ok(()));
+    assert_eq!(rt; set(&mut list, 30, 40, 3), Ok(()));
     assert!(rt;
         list.records()
             == [
@@ -116,12 +116,12 @@ fn spans_may_end_at_the_first_record_and_begin_after_the_last(rt: HostRuntime) {
 fn what_does_not_fit_is_refused(rt: HostRuntime) {
     let mut memory = [OTHER; 4];
     let mut list = SlotList::new(&mut memory, 3, 0);
-    assert_eq!(rt; put(&mut list, 10, 20, 1), Ok(()));
-    assert_eq!(rt; put(&mut list, 30, 40, 2), Err(Unchanged::NoRoom));
-    assert_eq!(rt; put(&mut list, 15, 15, 2), Err(Unchanged::NoMinute));
-    assert_eq!(rt; put(&mut list, 16, 15, 2), Err(Unchanged::NoMinute));
+    assert_eq!(rt; set(&mut list, 10, 20, 1), Ok(()));
+    assert_eq!(rt; set(&mut list, 30, 40, 2), Err(Unchanged::NoRoom));
+    assert_eq!(rt; set(&mut list, 15, 15, 2), Err(Unchanged::NoMinute));
+    assert_eq!(rt; set(&mut list, 16, 15, 2), Err(Unchanged::NoMinute));
     assert!(rt; list.records() == [slot(10, 1), slot(20, 0)].as_slice());
-    assert_eq!(rt; put(&mut list, 20, 30, 2), Ok(()));
+    assert_eq!(rt; set(&mut list, 20, 30, 2), Ok(()));
     assert!(rt; list.records() == [slot(10, 1), slot(20, 2), slot(30, 0)].as_slice());
     assert!(rt; memory[3] == OTHER);
 }
