@@ -3,6 +3,7 @@ use slots::change::Change;
 use units::kind::Units;
 
 // Puts a claim on.
+// Stays: this and `Lift` are two definitions of a kind, of which only one needs the capacity.
 #[derive(Clone, Copy)]
 pub struct Put<L> {
     pub capacity: u32,

@@ -35,6 +35,7 @@ fn is_settled(state: State) -> bool
     matches!(state, State::Confirmed | State::UnderWay)
 }
 
+// Stays: no row is refused here; that a number is no state's shows where the row's rules are tested.
 // The state of that number; a number that is no state's counts as blank, which no row of a file may be.
 fn state_numbered(number: u32) -> State
     ensures { result ≡ state_numbered number }

@@ -5,7 +5,8 @@ ghost use Rattle.lent.specs.Sifting.{sifted};
 
 use crate::sieve::Sieve;
 
-// Writes `x` over every element: a copy can't fail, as `fill` has to ask of a clone.
+// Writes `x` over every element.
+// Stays: the library's `fill` asks that a clone of `x` can't fail, which the bound does not tell.
 pub(crate) fn fill<T: Copy>(xs: &mut [T], x: T)
     ensures { xs.new ≡ replicate (length xs.old) x }
 {

@@ -6,6 +6,7 @@ ghost use Rattle.planning.specs.declared.rectangle.Rectangle.{Rectangle};
 use crate::rectangle::Rectangle;
 
 // A number that is read off a rectangle.
+// Stays: a closure in its place would ask of the caller that it may be called.
 pub trait Measure {
     ghost number: { Rectangle → ℕ };
 

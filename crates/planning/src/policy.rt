@@ -23,6 +23,7 @@ pub trait Policy {
 }
 
 // The rectangle whose number is lower is preferred.
+// Stays: this and `Most` are the two senses of one ranking, and a flag for the sense would hide which one a policy is.
 #[derive(Clone, Copy)]
 pub struct Least<M>(pub M);
 
