@@ -2,8 +2,10 @@
 #![tactic(auto)]
 
 ghost use Rattle.std.specs.Prelude.{◌≡◌, ◌≤◌, length, ◌==◌};
+ghost use Rattle.units.specs.Crews.{crew_kind};
+ghost use Rattle.units.specs.Stocks.{stock_kind};
 ghost use Rattle.boardfile.specs.Bytes.{number_at};
-ghost use Rattle.boardfile.specs.Filings.{stock_filing};
+ghost use Rattle.boardfile.specs.Filings.{crew_filing, stock_filing};
 ghost use Rattle.board.specs.Views.{holding};
 ghost use Rattle.office.specs.Office.{file_check, file_free};
 ghost use Rattle.office.specs.Telling.{free_before, told_as, file_told};
@@ -66,21 +68,35 @@ fn told<L: Filed>(
     Ok(free_on(&board, minute))
 }
 
+// The same by a crew board, in memory that is made for it.
+// Stays: this and the next differ in a type alone. In a function of any kind the arrays would have elements of no known size, and no proof bounds theirs; where one function made both, each call would set both up.
+fn crew_told(bytes: &[u8], minute: u32) -> Result<Option<u32>, Refusal>
+    ensures { result ≡ told_as crew_kind crew_filing bytes.now minute }
+{
+    let nobody = Crew { mask: 0 };
+    let mut rows = [blank_row(nobody); ROWS];
+    let mut slots = [blank_slot(nobody); RECORDS];
+    told(&mut rows, &mut slots, bytes, minute)
+}
+
+// The same by a stock board.
+fn stock_told(bytes: &[u8], minute: u32) -> Result<Option<u32>, Refusal>
+    ensures { result ≡ told_as stock_kind stock_filing bytes.now minute }
+{
+    let none = Stock { count: 0 };
+    let mut rows = [blank_row(none); ROWS];
+    let mut slots = [blank_slot(none); RECORDS];
+    told(&mut rows, &mut slots, bytes, minute)
+}
+
 // The same of a file by its own kind.
-// Stays: the memory is made here once for each kind. In a function of any kind it would be lent as slices of no known size, and no proof bounds it.
 fn asked(bytes: &[u8], minute: u32) -> Result<Option<u32>, Refusal>
     ensures { result ≡ file_told bytes.now minute }
 {
     if says_stock(bytes) {
-        let none = Stock { count: 0 };
-        let mut rows = [blank_row(none); ROWS];
-        let mut slots = [blank_slot(none); RECORDS];
-        told(&mut rows, &mut slots, bytes, minute)
+        stock_told(bytes, minute)
     } else {
-        let nobody = Crew { mask: 0 };
-        let mut rows = [blank_row(nobody); ROWS];
-        let mut slots = [blank_slot(nobody); RECORDS];
-        told(&mut rows, &mut slots, bytes, minute)
+        crew_told(bytes, minute)
     }
 }
 
