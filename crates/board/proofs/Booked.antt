@@ -4,7 +4,7 @@ use Rattle.std.proofs.lemmas.Bool.{lt-ltb}
 use Rattle.std.proofs.lemmas.List.{set_split}
 use Rattle.std.proofs.lemmas.List.Edits.{insert_end}
 use Rattle.std.specs.List.{insert, remove}
-use Rattle.std.specs.declared.cmp.PartialEq as equality
+use Rattle.slots.specs.declared.value.Value as value
 use Rattle.lent.specs.Lists.{items, Refilled}
 use Rattle.lent.specs.declared.lent.Lent.{Lent}
 use Rattle.lent.specs.declared.lent.NoRoom.{NoRoom}
@@ -32,7 +32,7 @@ use Rattle.board.proofs.Reslotted.{reslotted, same_list}
 pub read_is : {L : Type 0} (n place : ℕ) (rows : List (Row L)) (row : Row L) → Placed n rows (Some place) → row ≡ get_or rows place row → numbered n rows ≡ Some row
 read_is n place rows row placed read = placed.1 row ∙ ap (λ r. Some r) (sym read)
 
-module _ {L : Type 0} {u : units.Ghosts L} {e : equality.Ghosts L} (lawful : Lawful u.kind) (was : Board L u e) where
+module _ {L : Type 0} {u : units.Ghosts L} {e : value.Ghosts L} (lawful : Lawful u.kind) (was : Board L u e) where
   abbrev k : Kind L
   k = u.kind
 

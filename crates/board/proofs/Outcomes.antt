@@ -6,7 +6,7 @@ use Rattle.lent.proofs.Refills.{items_are, behind_same}
 use Rattle.slots.specs.SlotLists.{records, Rewritten}
 use Rattle.slots.specs.declared.list.SlotList.{SlotList}
 use Rattle.slots.specs.declared.slot.Slot.{Slot}
-use Rattle.std.specs.declared.cmp.PartialEq as equality
+use Rattle.slots.specs.declared.value.Value as value
 use Rattle.units.specs.Kinds.{Kind}
 use Rattle.units.specs.declared.kind.Units as units
 use Rattle.bookings.specs.Rows.{blank_row}
@@ -20,7 +20,7 @@ module _ {L : Type 0} where
   abbrev pub holds : ℕ → ℕ → ℕ → ℕ → List (Row L) → List (Slot L) → Holding L
   holds c h room n rows slots = record { book = record { capacity = c; horizon = h; room = room; next = n; rows = rows }; slots = slots }
 
-module _ {L : Type 0} {u : units.Ghosts L} {e : equality.Ghosts L} (k : Kind L) (was : Board L u e) where
+module _ {L : Type 0} {u : units.Ghosts L} {e : value.Ghosts L} (k : Kind L) (was : Board L u e) where
   -- with these rows, slots and numbers the board holds what it should, keeps what boards keep, and lies in the same memory
   pub record Outcome (rows : Lent (Row L)) (slots : SlotList L) (c h n : ℕ) (xs : List (Row L)) (ys : List (Slot L)) : Type 0 where
     pub rows_blank : rows.blank ≡ blank_row slots.floor
@@ -53,7 +53,7 @@ module _ {L : Type 0} {u : units.Ghosts L} {e : equality.Ghosts L} (k : Kind L) 
     }
 
 -- the same memory through one change and another
-module _ {L : Type 0} {u : units.Ghosts L} {e : equality.Ghosts L} where
+module _ {L : Type 0} {u : units.Ghosts L} {e : value.Ghosts L} where
   pub unmoved : (was : Board L u e) → SameMemory was was
   unmoved was = record { behind_is = refl; rows_lent = refl; slots_lent = refl }
 

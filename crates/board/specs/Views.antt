@@ -4,12 +4,12 @@ use Rattle.lent.specs.Lists.{items}
 use Rattle.slots.specs.SlotLists.{records}
 use Rattle.slots.specs.declared.slot.Slot.{Slot}
 use Rattle.units.specs.declared.kind.Units as units
-use Rattle.std.specs.declared.cmp.PartialEq as equality
+use Rattle.slots.specs.declared.value.Value as value
 use Rattle.bookings.specs.declared.row.Row.{Row}
 use Rattle.board.specs.Calls.{Holding}
 use Rattle.board.specs.declared.board.Board.{Board}
 
-module _ {L : Type 0} {u : units.Ghosts L} {e : equality.Ghosts L} where
+module _ {L : Type 0} {u : units.Ghosts L} {e : value.Ghosts L} where
   -- its book and its slot list
   abbrev pub holding : Board L u e → Holding L
   holding b = record {

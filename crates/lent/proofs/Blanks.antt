@@ -1,5 +1,5 @@
 -- Memory that holds a list and then blanks. Assumes nothing.
-use Rattle.std.proofs.Common.{◌≡◌, ℕ, ◌+◌, ◌-◌, ◌≤◌, List, ◌++◌, length, take, drop, replicate, sym, refl, ap, ◌∙◌, arith}
+use Rattle.std.proofs.Common.{◌≡◌, ℕ, ◌+◌, ◌-◌, ◌≤◌, List, ◌++◌, length, take, drop, replicate, sym, refl, ap, subst, ◌∙◌, ap₂, arith}
 use Rattle.std.proofs.lemmas.List.{append_assoc, length-append, length-take, length-drop, length-replicate, take_at, drop_at, drop-drop, take-append-drop, drop-append-le, drop-replicate, replicate-append-replicate}
 use Rattle.lent.specs.Memory.{Laid, laid}
 
@@ -47,3 +47,17 @@ module _ {X : Type 0} (blank : X) where
         let sum : (n - length xs) + (room - n) ≡ room - length xs = omega arith in
         ap (λ (ys : List X). xs ++ (replicate (n - length xs) blank ++ ys)) (behind n u k)
         ∙ ap (λ (ys : List X). xs ++ ys) (sym (append_assoc (replicate (n - length xs) blank) (replicate (room - n) blank) (drop room memory)) ∙ ap (λ (ys : List X). ys ++ drop room memory) (replicate-append-replicate (n - length xs) (room - n) blank ∙ ap (λ (i : ℕ). replicate i blank) sum))
+
+  -- the first elements of the memory, and blanks written behind them up to the room's end
+  module _ (used room : ℕ) (memory ys : List X) (l : used ≤ room) (k : room ≤ length memory) (made : ys ≡ replicate (length (take (room - used) (drop used memory))) blank) where
+    long : length (take used memory) ≡ used
+    long = simp length-take (omega arith)
+
+    pub laid_behind : take used memory ++ (ys ++ drop (room - used) (drop used memory)) ≡ laid blank room (take used memory) memory
+    laid_behind =
+        let own : length (take (room - used) (drop used memory)) ≡ room - length (take used memory) = simp (length-take, length-drop) (omega (arith, long)) in
+        let sum : used + (room - used) ≡ room = omega arith in
+        ap₂ (λ (zs rest : List X). take used memory ++ (zs ++ rest)) (made ∙ ap (λ (n : ℕ). replicate n blank) own) (drop-drop (room - used) used memory ∙ ap (λ (n : ℕ). drop n memory) sum)
+
+    pub behind_is : Laid blank used room (take used memory ++ (ys ++ drop (room - used) (drop used memory)))
+    behind_is = rw laid_behind (subst (λ (n : ℕ). Laid blank n room (laid blank room (take used memory) memory)) long (laid_is room (take used memory) memory (omega (arith, long)) k))

@@ -14,7 +14,7 @@ pub struct Lent<'m, T> {
     used: usize,
     room: usize,
     blank: T,
-    ghost laid_out: { Laid blank used room memory.now },
+    pub ghost laid_out: { Laid blank used room memory.now },
 }
 
 // There is no room for one item more.
@@ -32,11 +32,23 @@ impl<'m, T: Copy> Lent<'m, T> {
         ensures memory { result.memory.now ≡ laid blank result.room [] memory.old }
         ensures lent { result.memory.ghost_name ≡ memory.entry.ghost_name }
     {
+        Lent::over(memory, 0, room, blank)
+    }
+
+    // The same, whose first `used` items stand in the memory already, or as many as there is room for. It blanks the room behind them.
+    pub fn over(memory: &'m mut [T], used: usize, room: usize, blank: T) -> Lent<'m, T>
+        ensures items { items result ≡ take (min used result.room) memory.old }
+        ensures room { result.room ≡ min room (length memory.old) }
+        ensures blank { result.blank ≡ blank }
+        ensures memory { result.memory.now ≡ laid blank result.room (take (min used result.room) memory.old) memory.old }
+        ensures lent { result.memory.ghost_name ≡ memory.entry.ghost_name }
+    {
         let room = room.min(memory.len());
-        fill(&mut memory[..room], blank);
+        let used = used.min(room);
+        fill(&mut memory[used..room], blank);
         Lent {
             memory,
-            used: 0,
+            used,
             room,
             blank,
         }

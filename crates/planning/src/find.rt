@@ -46,7 +46,7 @@ impl<L: Units> Hit<L> {
         ensures { result ≡ true → GoesOn self.now over start horizon }
     {
         let r = self.rectangle;
-        r.opening <= start && start < r.closing && r.closing <= horizon && self.over == over
+        r.opening <= start && start < r.closing && r.closing <= horizon && self.over.same(over)
     }
 }
 

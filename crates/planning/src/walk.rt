@@ -39,7 +39,7 @@ fn last_load<L: Units>(slots: &[Slot<L>]) -> L
 fn silent<L: Units>(over: L, load: L) -> bool
     ensures { result ≡ L.kind.same (L.kind.joined over load) over }
 {
-    over.joined(load) == over
+    over.joined(load).same(over)
 }
 
 impl<'a, L: Units> Around<'a, L> {

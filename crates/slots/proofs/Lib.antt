@@ -9,3 +9,4 @@ pub mod Spots
 pub mod Splits
 pub mod Unique
 pub mod Whole
+mod Loosely

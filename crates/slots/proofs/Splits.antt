@@ -1,11 +1,15 @@
 -- A record put at a minute: where it goes, and that its place may be sought from an earlier one on. Assumes nothing.
 use Rattle.std.proofs.Common.{◌≡◌, ℕ, zero, suc, ◌+◌, ◌<◌, ◌≤◌, List, [], ◌∷◌, length, get_or, take, drop, sym, refl, ap, ◌∙◌, ap₂, inl, inr, arith}
+use Rattle.std.proofs.lemmas.List.{length-append, length-take, length-drop}
 use Rattle.std.proofs.lemmas.Bool.{lt-ltb, le-ltb, eq-eqb, ne_eqb, cases_order}
 use Rattle.slots.specs.Stepped.{slot_of}
 use Rattle.slots.specs.Steps.{place, last_of, wanting, split, lacks, put_in}
 use Rattle.slots.specs.declared.slot.Slot.{Slot}
 use Rattle.slots.proofs.Spans.{split_after, split_here, split_before}
 use Rattle.slots.proofs.Lacking.{lacks_after, lacks_here, lacks_before}
+
+pub put_in_length : {X : Type 0} (i : ℕ) (new xs : List X) → length (put_in i new xs) ≡ length xs + length new
+put_in_length i new xs = simp (length-append, length-take, length-drop) (omega arith)
 
 module _ {V : Type 0} (m : ℕ) where
   pub place_after : (x : Slot V) (xs : List (Slot V)) → x.minute < m → place m (x ∷ xs) ≡ suc (place m xs)

@@ -55,33 +55,37 @@ module _ {V : Type 0} (same : V → V → Bool) (told : (a b : V) → Decides (s
       ∙ front_kept 0 floor xs h
       ∙ changed_edited same told f from until floor xs span (canonical_ascending 0 floor xs h)
 
--- the list before the change, with the records of the span's ends put in one after the other, and once those from the start on are settled
-module _ {V C : Type 0} (same : V → V → Bool) (told : (a b : V) → Decides (same a b) (a ≡ b)) (changed : C → V → V)
-    (was : SlotList V) (span : Span) (how : Bor C) (minute : span.from < span.until) (ends : Ends V)
-    (a : Found span.from was.floor (records was) ends.start) (b : Found span.until ends.start.before (drop ends.start.place (records was)) ends.end) where
+-- a list with the records of the span's ends put in one after the other, and once those from the start on are settled
+module _ {V C : Type 0} (same : V → V → Bool) (changed : C → V → V) (was : Lent (Slot V)) (span : Span) (how : Bor C) (ends : Ends V) where
   abbrev settling : Settling V C
   settling = record { span = span; how = how; before = ends.start.before }
 
+  abbrev left_over : List (Slot V) → List (Slot V)
+  left_over ys = take ends.start.place ys ++ sifted (left_by same changed) (after_by changed) settling (drop ends.start.place ys)
+
+  abbrev pub settled_list : List (Slot V)
+  settled_list = changed_from same (changed how.now) span.from span.until ends.start.place ends.start.before (both_in ends (items was))
+
+  pub refilled_settled : (l1 l2 l3 : Lent (Slot V)) (n : ℕ) → n ≡ length (put_of ends.start)
+      → Refilled was (put_in ends.start.place (put_of ends.start) (items was)) l1
+      → Refilled l1 (put_in (ends.start.place + n + ends.end.place) (put_of ends.end) (items l1)) l2
+      → Refilled l2 (left_over (items l2)) l3
+      → Refilled was settled_list l3
+  refilled_settled l1 l2 l3 n count r1 r2 r3 =
+      let twice = items_are l1 l2 _ r2 ∙ ap₂ (λ (k : ℕ) ys. put_in (ends.start.place + k + ends.end.place) (put_of ends.end) ys) count (items_are was l1 _ r1) in
+      let made = ap left_over twice ∙ ap (λ ys. take ends.start.place (both_in ends (items was)) ++ ys) (sifted_settled same changed settling (drop ends.start.place (both_in ends (items was)))) in
+      subst (λ ys. Refilled was ys l3) made (refilled_again was l2 _ (refilled_again was l1 _ r1 l2 _ r2) l3 _ r3)
+
+-- the list before the change, and once it is settled
+module _ {V C : Type 0} (same : V → V → Bool) (told : (a b : V) → Decides (same a b) (a ≡ b)) (changed : C → V → V)
+    (was : SlotList V) (span : Span) (how : Bor C) (minute : span.from < span.until) (ends : Ends V)
+    (a : Found span.from was.floor (records was) ends.start) (b : Found span.until ends.start.before (drop ends.start.place (records was)) ends.end)
+    (l : Lent (Slot V)) (r : Refilled was.lent (settled_list same changed was.lent span how ends) l) where
   abbrev new : List (Slot V)
   new = edited same (changed how.now) span.from span.until was.floor (records was)
 
-  module _ (l1 l2 l3 : Lent (Slot V)) (n : ℕ) (count : n ≡ length (put_of ends.start))
-      (r1 : Refilled was.lent (put_in ends.start.place (put_of ends.start) (records was)) l1)
-      (r2 : Refilled l1 (put_in (ends.start.place + n + ends.end.place) (put_of ends.end) (items l1)) l2)
-      (r3 : Refilled l2 (take ends.start.place (items l2) ++ sifted (left_by same changed) (after_by changed) settling (drop ends.start.place (items l2))) l3) where
-    abbrev left_over : List (Slot V) → List (Slot V)
-    left_over ys = take ends.start.place ys ++ sifted (left_by same changed) (after_by changed) settling (drop ends.start.place ys)
+  pub refilled_new : Refilled was.lent new l
+  refilled_new = subst (λ ys. Refilled was.lent ys l) (settled_new same told (changed how.now) span.from span.until minute was.floor (records was) was.canonical ends a b) r
 
-    twice : items l2 ≡ both_in ends (records was)
-    twice = items_are l1 l2 _ r2 ∙ ap₂ (λ (k : ℕ) ys. put_in (ends.start.place + k + ends.end.place) (put_of ends.end) ys) count (items_are was.lent l1 _ r1)
-
-    made : left_over (items l2) ≡ new
-    made =
-        ap left_over twice ∙ ap (λ ys. take ends.start.place (both_in ends (records was)) ++ ys) (sifted_settled same changed settling (drop ends.start.place (both_in ends (records was))))
-        ∙ settled_new same told (changed how.now) span.from span.until minute was.floor (records was) was.canonical ends a b
-
-    pub refilled_new : Refilled was.lent new l3
-    refilled_new = subst (λ ys. Refilled was.lent ys l3) made (refilled_again was.lent l2 _ (refilled_again was.lent l1 _ r1 l2 _ r2) l3 _ r3)
-
-    pub canonical_new : Canonical 0 was.floor (items l3)
-    canonical_new = subst (Canonical 0 was.floor) (sym (items_are was.lent l3 new refilled_new)) (edited_right same told (changed how.now) span.from span.until was.floor (records was)).0
+  pub canonical_new : Canonical 0 was.floor (items l)
+  canonical_new = subst (Canonical 0 was.floor) (sym (items_are was.lent l new refilled_new)) (edited_right same told (changed how.now) span.from span.until was.floor (records was)).0

@@ -4,3 +4,4 @@ pub mod Steps
 pub mod Settlings
 pub mod SlotLists
 pub mod Theorems
+pub mod Loose

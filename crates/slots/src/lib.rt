@@ -3,6 +3,7 @@
 
 pub mod change;
 pub mod list;
+pub mod loose;
 mod reads;
 mod settling;
 pub mod slot;

@@ -1,7 +1,7 @@
 ghost use Rattle.std.specs.Prelude.{◌≡◌, ◌+◌, ◌≤◌, min, [], length, is_ok, if◌then◌else◌};
 ghost use Rattle.lent.specs.Lists.{items, Refilled};
 ghost use Rattle.lent.specs.Memory.{laid};
-ghost use Rattle.slots.specs.Steps.{put_of, put_in};
+ghost use Rattle.slots.specs.Steps.{put_of, put_in, both_in, changed_from};
 ghost use Rattle.slots.specs.Stepped.{at, slot_of, edited, Canonical, canonical_prop};
 
 use crate::change::Change;
@@ -17,8 +17,8 @@ use lent::lent::Lent;
 pub struct SlotList<'m, V> {
     lent: Lent<'m, Slot<V>>,
     floor: V,
-    ghost blank_is: { lent.blank ≡ slot_of 0 floor },
-    ghost canonical: { Canonical 0 floor (items lent) } by { canonical_prop 0 floor (items lent) },
+    pub ghost blank_is: { lent.blank ≡ slot_of 0 floor },
+    pub ghost canonical: { Canonical 0 floor (items lent) } by { canonical_prop 0 floor (items lent) },
 }
 
 // Why a change is not made: there is no minute in the span, or the records at its ends find no room.
@@ -36,6 +36,29 @@ fn put<V: Copy>(lent: &mut Lent<'_, Slot<V>>, place: usize, spot: Spot<V>)
     if let Some(s) = spot.lacking {
         let _ = lent.insert(place, s);
     }
+}
+
+// Puts in the records that lack at the ends of the span, changes those of the span, and takes out those that then repeat the value before them.
+pub(crate) fn settle<V: Value, C: Change<V>>(
+    lent: &mut Lent<'_, Slot<V>>,
+    ends: Ends<V>,
+    span: Span,
+    how: &C,
+)
+    requires { (ends.start.place + ends.end.place ≤ length (items lent.old)) × (length (items lent.old) + (length (put_of ends.start) + length (put_of ends.end)) ≤ lent.old.room) }
+    ensures { Refilled lent.old (changed_from V.alike (C.changed how.now) span.from span.until ends.start.place ends.start.before (both_in ends (items lent.old))) lent.new }
+{
+    let Ends { start, end } = ends;
+    put(lent, start.place, start);
+    put(lent, start.place + start.lacks() + end.place, end);
+    lent.sift(
+        start.place,
+        &mut Settling {
+            span,
+            how,
+            before: start.before,
+        },
+    );
 }
 
 impl<'m, V: Copy> SlotList<'m, V> {
@@ -75,6 +98,20 @@ impl<'m, V: Copy> SlotList<'m, V> {
         self.lent.items()
     }
 
+    // How many records there can be.
+    pub fn room(&self) -> usize
+        ensures { result ≡ self.now.lent.room }
+    {
+        self.lent.room()
+    }
+
+    // The value before the first record.
+    pub fn floor(&self) -> V
+        ensures { result ≡ self.now.floor }
+    {
+        self.floor
+    }
+
     // The value at `minute`.
     pub fn at(&self, minute: u32) -> V
         ensures { result ≡ at self.now.floor (records self.now) minute }
@@ -84,7 +121,8 @@ impl<'m, V: Copy> SlotList<'m, V> {
 
     // Takes all records out.
     pub fn clear(&mut self)
-        ensures { Rewritten self.old [] self.new }
+        ensures list { Rewritten self.old [] self.new }
+        ensures len { length self.new.lent.memory.now ≡ length self.old.lent.memory.now }
     {
         self.lent.clear();
     }
@@ -96,25 +134,17 @@ impl<'m, V: Value> SlotList<'m, V> {
     // Changes the value at each minute of the span, if the records at its ends find room.
     pub fn change<C: Change<V>>(&mut self, span: Span, how: &C) -> Result<(), Unchanged>
         ensures answer { result ≡ change_answer span.from span.until self.old.lent.room (records self.old) }
-        ensures list { Rewritten self.old (if is_ok result then edited V.eq (C.changed how.now) span.from span.until self.old.floor (records self.old) else records self.old) self.new }
+        ensures list { Rewritten self.old (if is_ok result then edited V.alike (C.changed how.now) span.from span.until self.old.floor (records self.old) else records self.old) self.new }
+        ensures len { length self.new.lent.memory.now ≡ length self.old.lent.memory.now }
     {
         if span.until <= span.from {
             return Err(Unchanged::NoMinute);
         }
-        let Ends { start, end } = ends_of(self.records(), self.floor, span);
-        if self.lent.spare() < start.lacks() + end.lacks() {
+        let ends = ends_of(self.records(), self.floor, span);
+        if self.lent.spare() < ends.start.lacks() + ends.end.lacks() {
             return Err(Unchanged::NoRoom);
         }
-        put(&mut self.lent, start.place, start);
-        put(&mut self.lent, start.place + start.lacks() + end.place, end);
-        self.lent.sift(
-            start.place,
-            &mut Settling {
-                span,
-                how,
-                before: start.before,
-            },
-        );
+        settle(&mut self.lent, ends, span, how);
         Ok(())
     }
 }

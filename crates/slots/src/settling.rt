@@ -33,13 +33,13 @@ impl<'c, V: Value, C: Change<V>> Settling<'c, V, C> {
 }
 
 impl<'c, V: Value, C: Change<V>> Sieve<Slot<V>> for Settling<'c, V, C> {
-    ghost left = { left_by V.eq C.changed };
+    ghost left = { left_by V.alike C.changed };
 
     ghost after = { after_by C.changed };
 
     fn pass(&mut self, item: Slot<V>) -> Option<Slot<V>> {
         let s = self.remade(item);
-        let repeats = s.value == self.before;
+        let repeats = s.value.same(self.before);
         self.before = s.value;
         if repeats { None } else { Some(s) }
     }

@@ -72,7 +72,7 @@ fn book<L: Units>(
         u64::from(end),
         u64::from(start) + u64::from(asked.duration)
     );
-    assert!(rt; taken == claim);
+    assert!(rt; taken.same(claim));
     Ok(())
 }
 

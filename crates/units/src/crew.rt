@@ -1,7 +1,7 @@
 // Crew: mechanics who are told apart by their numbers, from 1 to 64.
 ghost use Rattle.std.specs.Prelude.{◌≡◌, ◌<◌, ◌≤◌, MatchOption, count_ones};
 ghost use Rattle.units.specs.Sets.{without, lowest, AreLowest};
-ghost use Rattle.units.specs.Crews.{crew_kind, crew_clear, crew_free, crew_pick, idle, mechanics};
+ghost use Rattle.units.specs.Crews.{crew_kind, crew_clear, crew_same, crew_free, crew_pick, idle, mechanics};
 ghost use Rattle.std.proofs.Common.{rules, arith};
 ghost use Rattle.std.proofs.lemmas.Bool.Decides.{nat_tests};
 ghost use Rattle.units.specs.CrewLaws.{crew_laws};
@@ -50,7 +50,13 @@ fn first_of(mask: u64, wanted: u32) -> u64
 }
 
 impl Value for Crew {
+    ghost alike = { crew_same };
+
     ghost told = { Prim.search rules };
+
+    fn same(self, other: Crew) -> bool {
+        self == other
+    }
 }
 
 impl Units for Crew {

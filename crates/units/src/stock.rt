@@ -1,5 +1,5 @@
 // Stock: pieces that are told apart by their number alone.
-ghost use Rattle.units.specs.Stocks.{stock_kind, of_count};
+ghost use Rattle.units.specs.Stocks.{stock_kind, stock_same, of_count};
 ghost use Rattle.std.proofs.Common.{rules, ap, arith};
 ghost use Rattle.std.proofs.lemmas.Bool.Decides.{nat_tests};
 
@@ -13,7 +13,13 @@ pub struct Stock {
 }
 
 impl Value for Stock {
+    ghost alike = { stock_same };
+
     ghost told = { Prim.search rules };
+
+    fn same(self, other: Stock) -> bool {
+        self == other
+    }
 }
 
 impl Units for Stock {
