@@ -4,6 +4,7 @@ use Rattle.units.specs.Crews.{crew_kind}
 use Rattle.units.specs.declared.crew.Crew.{Crew}
 use Rattle.planning.specs.Rules.{earliest_start}
 use Rattle.planning.specs.declared.request.Request.{Request}
+use Rattle.bookings.specs.Refusals.{number}
 use Rattle.bookings.specs.declared.booking.Booking.{Booking}
 use Rattle.bookings.specs.declared.event.Event.{Event}
 use Rattle.bookings.specs.declared.event.Event.TheVariants as event
@@ -27,7 +28,7 @@ settling welcome x = cond (nat_le x.start welcome) event.Confirm event.Release
 abbrev pub hold_reply : ℕ → Answer Crew → reply.Answer
 hold_reply welcome (given n x) = cond (nat_le x.start welcome) (Granted n x.start x.claim.mask) (Late n x.start)
 hold_reply welcome done = Silent
-hold_reply welcome (refused why) = Refused why
+hold_reply welcome (refused why) = Refused (number why)
 
 abbrev pub hold_leaves : ℕ → Holding Crew → Answer Crew → Holding Crew
 hold_leaves welcome board (given n x) = after crew_kind board (move (settling welcome x) n)
@@ -37,7 +38,7 @@ hold_leaves welcome board (refused why) = board
 abbrev pub move_reply : Answer Crew → reply.Answer
 move_reply (given n x) = Done
 move_reply done = Done
-move_reply (refused why) = Refused why
+move_reply (refused why) = Refused (number why)
 
 -- what an order is answered
 abbrev pub ordered : Holding Crew → Order → reply.Answer
@@ -61,7 +62,7 @@ after_order board order.List = board
 abbrev pub answered : Holding Crew → Content → reply.Answer
 answered board (entry o) = ordered board o
 answered board remark = Silent
-answered board bad = Refused BadLine
+answered board bad = Refused (number BadLine)
 
 abbrev pub after_line : Holding Crew → Content → Holding Crew
 after_line board (entry o) = after_order board o
@@ -79,4 +80,4 @@ fresh_board = made crew_kind 8 10080 64 128
 
 -- all that a sheet is answered: one of more than 65,536 bytes is refused whole
 abbrev pub sheet_text : List ℕ → List ℕ
-sheet_text sheet = cond (nat_lt 65536 (length sheet)) (text_of [] (Refused SheetTooLong)) (texts fresh_board (map content (lines sheet)))
+sheet_text sheet = cond (nat_lt 65536 (length sheet)) (text_of [] (Refused (number SheetTooLong))) (texts fresh_board (map content (lines sheet)))

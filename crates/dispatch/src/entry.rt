@@ -92,8 +92,10 @@ pub fn run_line(board: &mut Board<'_, Crew>, item: Item<'_>) -> Answer
     ensures memory { SameMemory board.old board.new }
 {
     match item {
-        Item::Entry(_, order) => obey(board, order).unwrap_or_else(Answer::Refused),
+        Item::Entry(_, order) => {
+            obey(board, order).unwrap_or_else(|refusal| Answer::Refused(u32::from(refusal)))
+        }
         Item::Remark(_) => Answer::Silent,
-        Item::Bad(_) => Answer::Refused(Refusal::BadLine),
+        Item::Bad(_) => Answer::Refused(u32::from(Refusal::BadLine)),
     }
 }

@@ -10,7 +10,7 @@ use crate::entry::run_line;
 use board::board::Board;
 use board::setup::blank_row;
 use bookings::refusal::Refusal;
-use sheet::answer::{Answer, Printed};
+use sheet::answer::Answer;
 use sheet::reader::SheetReader;
 use slots::slot::Slot;
 use std::alloc::{AllocError, Global};
@@ -49,11 +49,8 @@ pub fn run(heap: Global, sheet: &[u8]) -> Result<String, AllocError>
 {
     calls_are_a_line(sheet);
     if MOST_BYTES < sheet.len() {
-        let refused = Printed {
-            answer: Answer::Refused(Refusal::SheetTooLong),
-            slots: &[],
-        };
-        return refused.to_string(heap);
+        let refused = Answer::Refused(u32::from(Refusal::SheetTooLong));
+        return refused.text(heap, &[]);
     }
     let nobody = Crew { mask: 0 };
     let mut rows = [blank_row(nobody); ROWS];

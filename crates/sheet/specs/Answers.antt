@@ -2,7 +2,6 @@
 use Rattle.std.specs.Prelude.{ℕ, List, [], ◌∷◌, ◌++◌, length, codes, decimal}
 use Rattle.std.specs.List.{flat_map}
 use Rattle.sheet.specs.Fields.{spaced}
-use Rattle.bookings.specs.Refusals.{number}
 use Rattle.slots.specs.declared.slot.Slot.{Slot}
 use Rattle.units.specs.declared.crew.Crew.{Crew}
 use Rattle.sheet.specs.declared.answer.Answer.{Answer}
@@ -21,9 +20,9 @@ list_text xs = line_text (codes "list") (length xs ∷ []) ++ flat_map slot_text
 
 -- the text of an answer, where the slot list is the one given
 abbrev pub text_of : List (Slot Crew) → Answer → List ℕ
-text_of slots (Granted n start claim) = line_text (codes "ok") (n ∷ start ∷ claim ∷ [])
-text_of slots (Late n start) = line_text (codes "late") (n ∷ start ∷ [])
+text_of slots (Granted number start claim) = line_text (codes "ok") (number ∷ start ∷ claim ∷ [])
+text_of slots (Late number start) = line_text (codes "late") (number ∷ start ∷ [])
 text_of slots Done = line_text (codes "ok") []
-text_of slots (Refused why) = line_text (codes "no") (number why ∷ [])
+text_of slots (Refused number) = line_text (codes "no") (number ∷ [])
 text_of slots Listed = list_text slots
 text_of slots Silent = []

@@ -1,10 +1,9 @@
 // The answers to the lines of a sheet, and their text.
-ghost use Rattle.std.specs.Prelude.{◌≡◌, ◌++◌, is_ok, if◌then◌else◌, string_bytes, Some};
+ghost use Rattle.std.specs.Prelude.{◌≡◌, ◌++◌, is_ok, IfOk, if◌then◌else◌, string_bytes, Some};
 ghost use Rattle.sheet.specs.Answers.{text_of, list_text, slot_text};
 
-use bookings::refusal::Refusal;
 use slots::slot::Slot;
-use std::alloc::AllocError;
+use std::alloc::{AllocError, Global};
 use std::fmt;
 use units::crew::Crew;
 
@@ -16,8 +15,9 @@ pub enum Answer {
     Late { number: u32, start: u32 },
     // A booking was cancelled, begun or finished.
     Done,
-    // The line was refused.
-    Refused(Refusal),
+    // The line was refused, for the reason with this number.
+    // Stays: a number, so that an answer can be printed whatever its reason is; a `Refusal` in its place would take fewer.
+    Refused(u32),
     // The slot list was asked for.
     Listed,
     // There is nothing to say.
@@ -75,10 +75,7 @@ impl fmt::Display for Printed<'_> {
             } => writeln!(f, "ok {number} {start} {claim}"),
             Answer::Late { number, start } => writeln!(f, "late {number} {start}"),
             Answer::Done => writeln!(f, "ok"),
-            Answer::Refused(refusal) => {
-                let number = u32::from(refusal);
-                writeln!(f, "no {number}")
-            }
+            Answer::Refused(number) => writeln!(f, "no {number}"),
             Answer::Listed => {
                 let list = Listing(self.slots);
                 write!(f, "{list}")
@@ -89,16 +86,23 @@ impl fmt::Display for Printed<'_> {
 }
 
 impl Answer {
-    // Appends the answer's text to `out`, or leaves `out` as it is where memory is short.
-    // Stays: `write!` to the text would say nothing of it where memory is short.
-    pub fn write_to(&self, slots: &[Slot<Crew>], out: &mut String) -> Result<(), AllocError>
-        ensures { string_bytes out.new ≡ (if is_ok result then string_bytes out.old ++ text_of slots.now self.now else string_bytes out.old) }
+    // The lines that the answer prints, each with its end, where the slot list is `slots`.
+    pub fn text(&self, heap: Global, slots: &[Slot<Crew>]) -> Result<String, AllocError>
+        ensures { IfOk result (λ s. string_bytes s ≡ text_of slots.now self.now) }
     {
         let printed = Printed {
             answer: *self,
             slots,
         };
-        let text = printed.to_string(*out.allocator())?;
+        printed.to_string(heap)
+    }
+
+    // Appends the answer's text to `out`, or leaves `out` as it is where memory is short.
+    // Stays: `write!` to the text would say nothing of it where memory is short.
+    pub fn write_to(&self, slots: &[Slot<Crew>], out: &mut String) -> Result<(), AllocError>
+        ensures { string_bytes out.new ≡ (if is_ok result then string_bytes out.old ++ text_of slots.now self.now else string_bytes out.old) }
+    {
+        let text = self.text(*out.allocator(), slots)?;
         out.push_str(&text)
     }
 }

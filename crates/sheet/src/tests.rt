@@ -4,7 +4,6 @@ use crate::item::Item;
 use crate::line::Line;
 use crate::order::Order;
 use crate::reader::{SheetReader, items};
-use bookings::refusal::Refusal;
 use slots::slot::Slot;
 use std::process::Abort;
 use std::test::Fail;
@@ -108,7 +107,7 @@ fn answers_as_text(rt: HostRuntime) -> Result<(), Fail> {
             number: 3,
             start: 120,
         },
-        Answer::Refused(Refusal::NoGap),
+        Answer::Refused(9),
         Answer::Done,
         Answer::Silent,
         Answer::Listed,
